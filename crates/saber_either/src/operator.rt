@@ -1,6 +1,7 @@
 // An operator of one of two kinds.
-ghost use Rattle.std.specs.Prelude.{◌≡◌, OnOk, OnErr};
+ghost use Rattle.std.specs.Prelude.{◌≡◌, OnOk};
 ghost use Rattle.saber_plan.specs.Inputs.{Input};
+ghost use Rattle.saber_plan.specs.Texts.{Behind};
 ghost use Rattle.saber_fragment.specs.Stores.{CanTakeIn, AddsText, LeavesKept, TakesIn};
 ghost use Rattle.saber_either.specs.Cases.{of_one, OfOne};
 
@@ -21,7 +22,7 @@ fn take_and_drop<O: Operator>(
     ensures text { OnOk result (AddsText (O.plan op.now) (O.contents store.old) (O.has_taken op.now store.old) (O.is_of op.now piece) out.old.items out.new.items) }
     ensures stays { OnOk result (LeavesKept (O.plan op.now) (O.contents store.old) (O.has_taken op.now store.old) (O.is_of op.now piece) (O.contents store.new)) }
     ensures taken { OnOk result (TakesIn (O.plan op.now) (O.contents store.old) (O.has_taken op.now store.old) (O.is_of op.now piece) (O.has_taken op.now store.new)) }
-    ensures err { OnErr result (out.new.items ≡ out.old.items) }
+    ensures behind { Behind out.old.items out.new.items }
 {
     op.take_in(alloc, store, piece, out)?;
     op.drop_closed(store);

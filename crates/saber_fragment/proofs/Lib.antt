@@ -1,2 +1,3 @@
 mod Slicing
 pub mod LookingBack
+pub mod Grown

@@ -12,9 +12,9 @@
 //! - Proved of each operator, in its own crate: `finish` gives the piece of the arrivals that the
 //!   task's rows are (`is_of`), from its own block and those looked back on; `take_in` appends what
 //!   these arrivals add to the text, and leaves in the store what is to be kept behind them, once
-//!   `drop_closed` has dropped the rest; `has_taken` goes on with the store. After want of memory
-//!   the text is as before. `specs/Drafts.antt` and `specs/Stores.antt` have what is asked of
-//!   callers.
+//!   `drop_closed` has dropped the rest; `has_taken` goes on with the store. What was in the text
+//!   stays in front, also after want of memory. `specs/Drafts.antt` and `specs/Stores.antt` have
+//!   what is asked of callers.
 //! - The law, for tasks of at least one row and rows that the plan can be given: a draft can be
 //!   started with the task's own block, can look back on the blocks from the first that the task
 //!   needs on, one after another, and then has the task's arrivals (`specs/LookBack.antt`).

@@ -1,8 +1,9 @@
 // What every kind of query does with tasks and what they give.
-ghost use Rattle.std.specs.Prelude.{◌≡◌, ℕ, [], IfOk, OnOk, OnErr};
+ghost use Rattle.std.specs.Prelude.{◌≡◌, ℕ, [], IfOk, OnOk};
 ghost use Rattle.saber_plan.specs.Inputs.{Input, going_on};
 ghost use Rattle.saber_plan.specs.Trees.{Tree};
 ghost use Rattle.saber_plan.specs.Tasks.{Kept, nothing_kept};
+ghost use Rattle.saber_plan.specs.Texts.{Behind};
 ghost use Rattle.saber_fragment.specs.Drafts.{Sight, own_sight, seen_back, CanStart, CanLookBack, IsWhole, IsSightOf};
 ghost use Rattle.saber_fragment.specs.Stores.{CanTakeIn, AddsText, LeavesKept, TakesIn};
 
@@ -74,8 +75,8 @@ pub trait Operator {
         ensures taken { has_taken self.now result (going_on []) };
 
     /// Takes in the piece of the next task, and appends what its arrivals add to the text: what is
-    /// printed of the windows that are closed now, or of its rows. After want of memory `out` is as
-    /// before, and the store is only safe to let go.
+    /// printed of the windows that are closed now, or of its rows. After want of memory some of the
+    /// text may be there, and the store is only safe to let go.
     fn take_in(
         &self,
         alloc: Global,
@@ -90,7 +91,7 @@ pub trait Operator {
             (remainder store.new)) }
         ensures taken { OnOk result (TakesIn (plan self.now) (contents store.old) (has_taken self.now store.old) (is_of self.now piece)
             (has_taken self.now store.new)) }
-        ensures err { OnErr result (out.new.items ≡ out.old.items) };
+        ensures behind { Behind out.old.items out.new.items };
 
     /// Drops the parts of closed windows. Takes no memory.
     fn drop_closed(&self, store: &mut Self::Store)

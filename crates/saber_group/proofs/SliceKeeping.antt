@@ -116,9 +116,9 @@ module _ (q : Tree) (r : Input) (x y : ℕ) (s : SliceStore) (p : SlicePiece) (k
           begun_is = begun ∙ ap (begun_count (frame q)) f.of_is.after_is;
         }
 
-    pub text_after : (new : Entries) (done : ℕ) (before after : List ℕ) → before ≡ [] → Came q old_rows new_rows s.windows.next new closed done before after
-        → after ≡ lines_between q no_rows (take y r.rows) (closed_count (frame q) (mark_at r x)) (closed_count (frame q) (mark_at r y))
-    text_after new done before after none w = w.text ∙ ap (λ b. b ++ lines_between q no_rows (old_rows ++ new_rows) s.windows.next closed) none ∙ (λ j. lines_between q no_rows (all_rows j) (f.taken_is.next_is j) (closed_end j))
+    pub text_after : (new : Entries) (done : ℕ) (before after : List ℕ) → Came q old_rows new_rows s.windows.next new closed done before after
+        → after ≡ before ++ lines_between q no_rows (take y r.rows) (closed_count (frame q) (mark_at r x)) (closed_count (frame q) (mark_at r y))
+    text_after new done before after w = w.text ∙ (λ j. before ++ lines_between q no_rows (all_rows j) (f.taken_is.next_is j) (closed_end j))
 
 -- ---- no rows
 

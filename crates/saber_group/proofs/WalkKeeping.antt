@@ -60,13 +60,13 @@ can_walk q t same r x y s p closed closed_is g =
     (old_rows q r x y s.slices (piece_of p) (kept_in s) f, new_rows q r x y s.slices (piece_of p) (kept_in s) f, (first_arrivals r y).ended, comes q r x y s.slices (piece_of p) (kept_in s) f closed closed_is)
 
 -- what comes of it
-pub record Took (q : Tree) (r : Input) (x y : ℕ) (new : WalkStore) (text : List ℕ) : Type 0 where
-  pub adds : text ≡ added_text q r x y
+pub record Took (q : Tree) (r : Input) (x y : ℕ) (new : WalkStore) (before after : List ℕ) : Type 0 where
+  pub adds : after ≡ before ++ added_text q r x y
   pub stays : kept_in new ≡ kept_behind q (first_arrivals r y)
   pub taken : HasWalked q (first_arrivals r y) new
 
 module _ (q : Tree) (shape : q.shape ≡ Group) (change : Change) (e : way q ≡ by_change (change_of change)) (s : WalkStore) (p : TaskSlices)
-    (closed : ℕ) (closed_is : closed ≡ closed_count (frame q) p.after) (new : WalkStore) (begun : new.slices.begun ≡ begun_count (frame q) p.after) (before after : List ℕ) (none : before ≡ [])
+    (closed : ℕ) (closed_is : closed ≡ closed_count (frame q) p.after) (new : WalkStore) (begun : new.slices.begun ≡ begun_count (frame q) p.after) (before after : List ℕ)
     (went : HasWalkedBy change q s.slices.windows s.walk p.slices.items closed new.slices.windows new.walk before after) where
   module _ (r : Input) (x y : ℕ) (f : Goes q s p r x y) where
     follows : Follows q (kept_in s) (λ u. TakenIn q u s.slices) (λ r x y. IsOf q r x y (piece_of p)) r x y
@@ -101,17 +101,16 @@ module _ (q : Tree) (shape : q.shape ≡ Group) (change : Change) (e : way q ≡
     unfolding last_answers
     last_is = walked.walks.stands ∙ (λ j. before_window (at_is j) ((walked.next_is ∙ end_is) j))
 
-    text_is : after ≡ change_added (change_of change) q r x y
+    text_is : after ≡ before ++ change_added (change_of change) q r x y
     text_is =
-        walked.walks.text ∙ ap (λ l. l ++ changes_from change (answers_over q no_rows (old ++ rows)) s.walk.next closed) none
-        ∙ (λ j. changes_from change (at_is j) (f.taken_is.next_is j) (end_is j))
+        walked.walks.text ∙ (λ j. before ++ changes_from change (at_is j) (f.taken_is.next_is j) (end_is j))
 
-    took_here : Took q r x y new after
+    took_here : Took q r x y new before after
     took_here = record {
-      adds = text_is ∙ sym (changed_added q change e r x y);
+      adds = text_is ∙ ap (λ l. before ++ l) (sym (changed_added q change e r x y));
       stays = (λ j. record { parts = held_is q shape (first_arrivals r y) new.slices taken_is j; lists = empty; answers = last_is j }) ∙ sym (changed_kept q change e (first_arrivals r y));
       taken = record { taken = taken_is; next_is = walked.next_is ∙ end_is };
     }
 
-  pub took : (t : Tree) → q ≡ t → (r : Input) (x y : ℕ) → Goes t s p r x y → Took t r x y new after
-  took t same = subst (λ (u : Tree). (r : Input) (x y : ℕ) → Goes u s p r x y → Took u r x y new after) same took_here
+  pub took : (t : Tree) → q ≡ t → (r : Input) (x y : ℕ) → Goes t s p r x y → Took t r x y new before after
+  took t same = subst (λ (u : Tree). (r : Input) (x y : ℕ) → Goes u s p r x y → Took u r x y new before after) same took_here

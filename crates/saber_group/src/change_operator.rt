@@ -64,7 +64,6 @@ impl Operator for GroupChanges<'_> {
         }
     }
 
-    // The lines are put together first, so that `out` is as before after want of memory.
     fn take_in(
         &self,
         alloc: Global,
@@ -74,7 +73,6 @@ impl Operator for GroupChanges<'_> {
     ) -> Result<(), NoMemory> {
         let closed = self.group.closed_below(&piece.after);
         let begun = self.group.begun_below(&piece.after);
-        let mut text = Vec::new(alloc);
         self.group.walk_uncounted::<Brand>(
             alloc,
             self.change,
@@ -82,11 +80,10 @@ impl Operator for GroupChanges<'_> {
             &mut store.walk,
             piece.slices,
             closed,
-            &mut text,
+            out,
             Blank::new(1),
         )?;
         store.slices.begun = begun;
-        out.extend_from_slice(&text)?;
         Ok(())
     }
 

@@ -2,6 +2,7 @@
 // open windows have, and the walk over those that are closed.
 ghost use Rattle.std.specs.Prelude.{◌≡◌, ◌≤◌, ◌<◌, ◌+◌, ◌*◌, max, None, length, OnOk};
 ghost use Rattle.saber_plan.specs.declared.plans.Shape.TheVariants as shapes;
+ghost use Rattle.saber_plan.specs.Texts.{Behind};
 ghost use Rattle.saber_plan.specs.Trees.{tree_of};
 ghost use Rattle.saber_group.specs.SliceParts.{HoldStill};
 ghost use Rattle.saber_group.specs.SliceStores.{CanCome, CanGoOn};
@@ -44,6 +45,7 @@ impl Open {
         ensures walk { OnOk result (walk.new.next ≡ self.new.next) }
         ensures slices { OnOk result (HoldStill (tree_of plan.now) self.old.next self.old.slices.entries self.new.next self.new.slices.entries) }
         ensures text { OnOk result (HasPassed change (tree_of plan.now) self.old.next self.old.slices.entries low walk.old walk.new out.old.items out.new.items) }
+        ensures behind { Behind out.old.items out.new.items }
         ensures steps { OnOk result (steps.new + self.new.slices.owed + self.old.next ≤ steps.old + self.old.slices.owed + self.new.next) }
     {
         while self.next < low {
@@ -69,8 +71,8 @@ impl Open {
 
 impl Group<'_> {
     /// Takes the next slices in, and appends what the windows below `closed` gain or lose. In
-    /// merges, slices and windows cost what they cost `take_slices`. After want of memory store,
-    /// walk and text are only safe.
+    /// merges, slices and windows cost what they cost `take_slices`. After want of memory some of
+    /// the text may be there, and store and walk are only safe.
     pub(crate) fn walk_slices<L: Ledger>(
         &self,
         alloc: Global,
@@ -85,6 +87,7 @@ impl Group<'_> {
         requires goes_on { CanGoOn (tree_of self.now) store.old slices.items closed }
         requires walk { walk.old.next ≡ store.old.next }
         ensures walked_on { OnOk result (HasWalkedOn change (tree_of self.now) store.old walk.old slices.items closed store.new walk.new out.old.items out.new.items) }
+        ensures behind { Behind out.old.items out.new.items }
         ensures steps { OnOk result (steps.new + store.new.slices.owed + store.old.next ≤ steps.old + store.old.slices.owed + 2 * length slices.items + store.new.next) }
     {
         let _plan = &self.plan;
@@ -97,7 +100,8 @@ impl Group<'_> {
     }
 
     /// Takes the slices of the next task in, and appends what the windows below `closed` gain or
-    /// lose, at the same cost. After want of memory store, walk and text are only safe.
+    /// lose, at the same cost. After want of memory some of the text may be there, and store and
+    /// walk are only safe.
     pub(crate) fn walk_task<L: Ledger>(
         &self,
         alloc: Global,
@@ -112,6 +116,7 @@ impl Group<'_> {
         requires comes { CanCome (tree_of self.now) store.old slices.items None closed }
         requires walk { walk.old.next ≡ store.old.next }
         ensures walked_by { OnOk result (HasWalkedBy change (tree_of self.now) store.old walk.old slices.items closed store.new walk.new out.old.items out.new.items) }
+        ensures behind { Behind out.old.items out.new.items }
         ensures steps { OnOk result (steps.new + store.new.slices.owed + store.old.next ≤ steps.old + store.old.slices.owed + 2 * length slices.items + store.new.next) }
     {
         let _plan = &self.plan;
@@ -135,7 +140,8 @@ impl Group<'_> {
         requires name { blank.name ≡ L.name }
         requires parts { blank.parts ≡ L.parts }
         requires some { 0 < blank.parts }
-        ensures { OnOk result (HasWalkedBy change (tree_of self.now) store.old walk.old slices.items closed store.new walk.new out.old.items out.new.items) }
+        ensures walked_by { OnOk result (HasWalkedBy change (tree_of self.now) store.old walk.old slices.items closed store.new walk.new out.old.items out.new.items) }
+        ensures behind { Behind out.old.items out.new.items }
     {
         let mut steps = Steps::<L>::new(blank);
         self.walk_task(alloc, change, store, walk, slices, closed, out, &mut steps)

@@ -1,6 +1,7 @@
 // The windows that may have more rows.
 ghost use Rattle.std.specs.Prelude.{◌≡◌, ◌≤◌, ◌+◌, max, [], OnOk};
 ghost use Rattle.saber_plan.specs.declared.plans.Shape.TheVariants.{Group};
+ghost use Rattle.saber_plan.specs.Texts.{Behind};
 ghost use Rattle.saber_plan.specs.Trees.{tree_of};
 ghost use Rattle.saber_sliding.specs.Entries.{CanFollow};
 ghost use Rattle.saber_group.specs.SliceParts.{Entered, HoldStill, Printed};
@@ -53,7 +54,7 @@ impl Open {
     }
 
     /// Appends the lines of the windows below `low`: one step for each, beside those owed. No later
-    /// row lies in them.
+    /// row lies in them. After want of memory some of them may be there.
     pub(crate) fn close_lines<L: Ledger>(
         &mut self,
         plan: &Plan,
@@ -65,6 +66,7 @@ impl Open {
         ensures next { OnOk result (self.new.next ≡ max self.old.next low) }
         ensures slices { OnOk result (HoldStill (tree_of plan.now) self.old.next self.old.slices.entries self.new.next self.new.slices.entries) }
         ensures text { OnOk result (Printed (tree_of plan.now) self.old.next self.old.slices.entries low self.new.next out.old.items out.new.items) }
+        ensures behind { Behind out.old.items out.new.items }
         ensures steps { OnOk result (steps.new + self.new.slices.owed + self.old.next ≤ steps.old + self.old.slices.owed + self.new.next) }
     {
         while self.next < low {

@@ -103,7 +103,6 @@ impl Operator for GroupOperator<'_> {
         self.group.no_slices(alloc)
     }
 
-    // The lines are put together first, so that `out` is as before after want of memory.
     fn take_in(
         &self,
         alloc: Global,
@@ -114,17 +113,15 @@ impl Operator for GroupOperator<'_> {
         let _plan = &self.group.plan;
         let closed = self.group.closed_below(&piece.after);
         let begun = self.group.begun_below(&piece.after);
-        let mut text = Vec::new(alloc);
         self.group.take_uncounted::<Brand>(
             alloc,
             &mut store.windows,
             piece,
             closed,
-            &mut text,
+            out,
             Blank::new(1),
         )?;
         store.begun = begun;
-        out.extend_from_slice(&text)?;
         Ok(())
     }
 

@@ -1,6 +1,7 @@
 // What is kept from task to task: the slices that open windows have.
 ghost use Rattle.std.specs.Prelude.{◌≡◌, ◌≤◌, ◌<◌, ◌+◌, ◌*◌, ℕ, [], Some, length, OnOk};
 ghost use Rattle.std.specs.FinMap.{empty};
+ghost use Rattle.saber_plan.specs.Texts.{Behind};
 ghost use Rattle.saber_plan.specs.Trees.{tree_of};
 ghost use Rattle.saber_plan.specs.Inputs.{going_on};
 ghost use Rattle.saber_group.specs.SliceStores.{held_in, CanCome, CanGoOn, HasCome, HasGoneOn, PieceSteps, TakenIn};
@@ -38,8 +39,8 @@ impl Group<'_> {
 
     /// Takes the next slices in, and appends the lines of the windows below `closed`. A slice costs
     /// two steps, each now or later, and a window one, however many slices it has and however many
-    /// windows have a slice: each merge of two parts is a step. After want of memory store and text
-    /// are only safe.
+    /// windows have a slice: each merge of two parts is a step. After want of memory some of the
+    /// text may be there, and the store is only safe.
     pub(crate) fn take_slices<L: Ledger>(
         &self,
         alloc: Global,
@@ -51,6 +52,7 @@ impl Group<'_> {
     ) -> Result<(), NoMemory>
         requires { CanGoOn (tree_of self.now) store.old slices.items closed }
         ensures went_on { OnOk result (HasGoneOn (tree_of self.now) store.old slices.items closed store.new out.old.items out.new.items) }
+        ensures behind { Behind out.old.items out.new.items }
         ensures steps { OnOk result (steps.new + store.new.slices.owed + store.old.next ≤ steps.old + store.old.slices.owed + 2 * length slices.items + store.new.next) }
     {
         let _plan = &self.plan;
@@ -75,6 +77,7 @@ impl Group<'_> {
     ) -> Result<(), NoMemory>
         requires { (closed : ℕ) × CanCome (tree_of self.now) store.old slices.items (Some complete) closed }
         ensures come { OnOk result ((closed : ℕ) → HasCome (tree_of self.now) store.old slices.items (Some complete) closed store.new out.old.items out.new.items) }
+        ensures behind { Behind out.old.items out.new.items }
         ensures steps { OnOk result (PieceSteps store.old (length slices.items) (Some complete) store.new steps.old steps.new) }
     {
         match self.take_slices(alloc, store, slices, complete.low, out, steps) {
@@ -96,7 +99,7 @@ impl Group<'_> {
     }
 
     /// Takes the piece of the next task in, and appends the lines of the windows below `closed`.
-    /// After want of memory store and text are only safe.
+    /// After want of memory some of the text may be there, and the store is only safe.
     pub(crate) fn take_piece<L: Ledger>(
         &self,
         alloc: Global,
@@ -108,6 +111,7 @@ impl Group<'_> {
     ) -> Result<(), NoMemory>
         requires { CanCome (tree_of self.now) store.old piece.slices.items piece.complete closed }
         ensures come { OnOk result (HasCome (tree_of self.now) store.old piece.slices.items piece.complete closed store.new out.old.items out.new.items) }
+        ensures behind { Behind out.old.items out.new.items }
         ensures steps { OnOk result (PieceSteps store.old (length piece.slices.items) piece.complete store.new steps.old steps.new) }
     {
         let _plan = &self.plan;
@@ -136,7 +140,8 @@ impl Group<'_> {
         requires name { blank.name ≡ L.name }
         requires parts { blank.parts ≡ L.parts }
         requires some { 0 < blank.parts }
-        ensures { OnOk result (HasCome (tree_of self.now) store.old piece.slices.items piece.complete closed store.new out.old.items out.new.items) }
+        ensures come { OnOk result (HasCome (tree_of self.now) store.old piece.slices.items piece.complete closed store.new out.old.items out.new.items) }
+        ensures behind { Behind out.old.items out.new.items }
     {
         let mut steps = Steps::<L>::new(blank);
         self.take_piece(alloc, store, piece, closed, out, &mut steps)

@@ -1,6 +1,7 @@
 // What is kept of the rows with one key list.
 ghost use Rattle.std.specs.Prelude.{◌≡◌, ◌≤◌, ◌+◌, max, [], List, OnOk};
 ghost use Rattle.saber_plan.specs.declared.rows.Row.{Row};
+ghost use Rattle.saber_plan.specs.Texts.{Behind};
 ghost use Rattle.saber_plan.specs.Trees.{tree_of};
 ghost use Rattle.saber_sliding.specs.Entries.{CanFollow};
 ghost use Rattle.saber_partition.specs.Streams.{part_in, Asks, Came, Comes, Entered, HoldStill, Keeps, Printed};
@@ -60,7 +61,8 @@ impl Keyed {
         self.parts.put(alloc, past, &parts.part(i), steps)
     }
 
-    /// Appends the lines of the windows below `low`: one step for each, beside those owed.
+    /// Appends the lines of the windows below `low`: one step for each, beside those owed. After
+    /// want of memory some of them may be there.
     pub(crate) fn close_lines<L: Ledger>(
         &mut self,
         plan: &Plan,
@@ -73,6 +75,7 @@ impl Keyed {
         ensures begun { OnOk result (self.new.begun ≡ self.old.begun) }
         ensures parts { OnOk result (HoldStill (tree_of plan.now) self.old.next self.old.parts.entries self.new.next self.new.parts.entries) }
         ensures text { OnOk result (Printed (tree_of plan.now) self.old.next self.old.parts.entries self.new.next out.old.items out.new.items) }
+        ensures behind { Behind out.old.items out.new.items }
         ensures steps { OnOk result (steps.new + self.new.parts.owed + self.old.next ≤ steps.old + self.old.parts.owed + self.new.next) }
     {
         while self.next < low {
@@ -112,6 +115,7 @@ impl Keyed {
         ensures came { OnOk result ((us : List Row) (r : Row) → Comes (tree_of plan.now) us r low past (part_in parts.now part)
             → Keeps (tree_of plan.now) us self.old.next self.old.begun self.old.parts.entries
             → Came (tree_of plan.now) us r self.new.next self.new.begun self.new.parts.entries out.old.items out.new.items) }
+        ensures behind { Behind out.old.items out.new.items }
         ensures steps { OnOk result (steps.new + self.new.parts.owed + self.old.next ≤ steps.old + self.old.parts.owed + 2 + self.new.next) }
     {
         self.take_part(alloc, past, parts, part, steps)?;

@@ -2,6 +2,7 @@
 ghost use Rattle.std.specs.Prelude.{◌≡◌, ◌++◌, List, None, map, max, OnOk};
 ghost use Rattle.std.specs.FinMap.{get};
 ghost use Rattle.saber_plan.specs.declared.rows.Row.{Row};
+ghost use Rattle.saber_plan.specs.Texts.{Behind};
 ghost use Rattle.saber_plan.specs.Trees.{tree_of};
 ghost use Rattle.saber_plan.specs.Answers.{closed_at_last, frame};
 ghost use Rattle.saber_partition.specs.Streams.{Asks, Printed};
@@ -43,8 +44,9 @@ fn take_first<L: Ledger>(
     requires windows { windows.now ≡ frame (tree_of plan.now) }
     requires comes { (xs : List Row) × (r : Row) × RowComes (tree_of plan.now) xs r (made_of parts.now row) (lists_of lists.old.entries) }
     requires missing { get (lists_of lists.old.entries) row.list.items ≡ None }
-    ensures { OnOk result ((xs : List Row) (r : Row) → RowComes (tree_of plan.now) xs r (made_of parts.now row) (lists_of lists.old.entries)
+    ensures came { OnOk result ((xs : List Row) (r : Row) → RowComes (tree_of plan.now) xs r (made_of parts.now row) (lists_of lists.old.entries)
         → RowCame (tree_of plan.now) xs r (lists_of lists.new.entries) out.old.items out.new.items) }
+    ensures behind { Behind out.old.items out.new.items }
 {
     let RowPiece { list, place, part } = row;
     let (low, past) = numbers_behind(windows, place);
@@ -74,8 +76,9 @@ pub(crate) fn take_row<L: Ledger>(
 ) -> Result<(), NoMemory>
     requires windows { windows.now ≡ frame (tree_of plan.now) }
     requires comes { (xs : List Row) × (r : Row) × RowComes (tree_of plan.now) xs r (made_of parts.now row) (lists_of lists.old.entries) }
-    ensures { OnOk result ((xs : List Row) (r : Row) → RowComes (tree_of plan.now) xs r (made_of parts.now row) (lists_of lists.old.entries)
+    ensures came { OnOk result ((xs : List Row) (r : Row) → RowComes (tree_of plan.now) xs r (made_of parts.now row) (lists_of lists.old.entries)
         → RowCame (tree_of plan.now) xs r (lists_of lists.new.entries) out.old.items out.new.items) }
+    ensures behind { Behind out.old.items out.new.items }
 {
     match lists.get_mut(&row.list) {
         Some(own) => {
@@ -99,8 +102,9 @@ pub(crate) fn take_rows<L: Ledger>(
 ) -> Result<(), NoMemory>
     requires windows { windows.now ≡ frame (tree_of plan.now) }
     requires come { (xs : List Row) × (rs : List Row) × RowsCome (tree_of plan.now) xs rs (map (made_of parts.now) rows.items) (lists_of lists.old.entries) }
-    ensures { OnOk result ((xs rs : List Row) → RowsCome (tree_of plan.now) xs rs (map (made_of parts.now) rows.items) (lists_of lists.old.entries)
+    ensures came { OnOk result ((xs rs : List Row) → RowsCome (tree_of plan.now) xs rs (map (made_of parts.now) rows.items) (lists_of lists.old.entries)
         → RowsCame (tree_of plan.now) xs rs (lists_of lists.new.entries) out.old.items out.new.items) }
+    ensures behind { Behind out.old.items out.new.items }
 {
     for row in rows {
         take_row(alloc, plan, windows, lists, row, parts, out, steps)?;
@@ -116,7 +120,8 @@ fn close_list<L: Ledger>(
     steps: &mut Steps<L>,
 ) -> Result<(), NoMemory>
     requires { Asks (tree_of plan.now) }
-    ensures { OnOk result (Printed (tree_of plan.now) kept.next kept.parts.entries (max kept.next kept.begun) out.old.items out.new.items) }
+    ensures printed { OnOk result (Printed (tree_of plan.now) kept.next kept.parts.entries (max kept.next kept.begun) out.old.items out.new.items) }
+    ensures behind { Behind out.old.items out.new.items }
 {
     let mut own = kept;
     let begun = own.begun;
@@ -140,8 +145,9 @@ fn close_all<L: Ledger>(
     steps: &mut Steps<L>,
 ) -> Result<(), NoMemory>
     requires { Asks (tree_of plan.now) }
-    ensures { OnOk result ((xs : List Row) → TakenAll (tree_of plan.now) xs (lists_of lists.entries)
+    ensures printed { OnOk result ((xs : List Row) → TakenAll (tree_of plan.now) xs (lists_of lists.entries)
         → out.new.items ≡ out.old.items ++ closed_at_last (tree_of plan.now) xs) }
+    ensures behind { Behind out.old.items out.new.items }
 {
     let _count = lists.len();
     for (list, kept) in lists {
@@ -160,8 +166,9 @@ pub(crate) fn take_end<L: Ledger>(
     steps: &mut Steps<L>,
 ) -> Result<(), NoMemory>
     requires { Asks (tree_of plan.now) }
-    ensures { OnOk result ((xs : List Row) → TakenAll (tree_of plan.now) xs (lists_of lists.old.entries)
+    ensures came { OnOk result ((xs : List Row) → TakenAll (tree_of plan.now) xs (lists_of lists.old.entries)
         → EndCame (tree_of plan.now) xs ended (lists_of lists.new.entries) out.old.items out.new.items) }
+    ensures behind { Behind out.old.items out.new.items }
 {
     if !ended {
         return Ok(());

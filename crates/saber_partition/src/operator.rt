@@ -1,5 +1,6 @@
 // What a query with PARTITION BY does with tasks and what they give.
 ghost use Rattle.std.specs.Prelude.{◌≡◌, ◌<◌, ℕ, OnOk, map};
+ghost use Rattle.saber_plan.specs.Texts.{Behind};
 ghost use Rattle.saber_plan.specs.Trees.{tree_of};
 ghost use Rattle.saber_plan.specs.Inputs.{Input};
 ghost use Rattle.saber_partition.specs.Pieces.{Follow, Followed};
@@ -30,8 +31,9 @@ impl Partition<'_> {
         requires name { blank.name ≡ L.name }
         requires parts { blank.parts ≡ L.parts }
         requires some { 0 < blank.parts }
-        ensures { OnOk result ((r : Input) (x y : ℕ) → Follow (tree_of self.now) r x y (map (made_of piece.parts) piece.rows.items) piece.ended (lists_of store.old.lists.entries)
+        ensures followed { OnOk result ((r : Input) (x y : ℕ) → Follow (tree_of self.now) r x y (map (made_of piece.parts) piece.rows.items) piece.ended (lists_of store.old.lists.entries)
             → Followed (tree_of self.now) r x y (lists_of store.new.lists.entries) out.old.items out.new.items) }
+        ensures behind { Behind out.old.items out.new.items }
     {
         let ListPiece { rows, parts, ended } = piece;
         let mut steps = Steps::<L>::new(blank);
@@ -105,7 +107,6 @@ impl Operator for Partition<'_> {
         }
     }
 
-    // The lines are put together first, so that `out` is as before after want of memory.
     fn take_in(
         &self,
         alloc: Global,
@@ -114,9 +115,7 @@ impl Operator for Partition<'_> {
         out: &mut Vec<u8>,
     ) -> Result<(), NoMemory> {
         let _plan = &self.plan;
-        let mut text = Vec::new(alloc);
-        self.take_piece::<Brand>(alloc, store, piece, &mut text, Blank::new(1))?;
-        out.extend_from_slice(&text)?;
+        self.take_piece::<Brand>(alloc, store, piece, out, Blank::new(1))?;
         Ok(())
     }
 

@@ -1,8 +1,9 @@
 // What an operator does with the parts of its windows.
-ghost use Rattle.std.specs.Prelude.{◌≡◌, ◌++◌, true, false, Some, OnOk, OnErr, IfOk};
+ghost use Rattle.std.specs.Prelude.{◌≡◌, ◌++◌, true, false, Some, OnOk, IfOk};
 ghost use Rattle.saber_plan.specs.Trees.{Tree};
 ghost use Rattle.saber_plan.specs.Parts.{Part, no_part, merge, part_lines, part_answers};
 ghost use Rattle.saber_plan.specs.Tasks.{full};
+ghost use Rattle.saber_plan.specs.Texts.{Behind};
 ghost use Rattle.saber_plan.specs.GivenRows.{AreNeighbors};
 
 use saber_changes::Answers;
@@ -31,10 +32,11 @@ pub trait Assembles {
         requires { AreNeighbors (plan self.now) (shown into.old) (shown from) }
         ensures { OnOk result (shown into.new ≡ merge (shown into.old) (shown from)) };
 
-    /// Appends the lines of window i, of which this is the whole part.
+    /// Appends the lines of window i, of which this is the whole part. After want of memory some of
+    /// them may be there.
     fn lines(&self, i: u64, part: &Self::Part, out: &mut Vec<u8>) -> Result<(), NoMemory>
         ensures ok { OnOk result (out.new.items ≡ out.old.items ++ part_lines (plan self.now) i (shown part.now)) }
-        ensures err { OnErr result (out.new.items ≡ out.old.items) };
+        ensures behind { Behind out.old.items out.new.items };
 
     /// The answers of a window, of which this is the whole part.
     fn answers(&self, alloc: Global, part: &Self::Part) -> Result<Answers, NoMemory>

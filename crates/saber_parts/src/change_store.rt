@@ -1,6 +1,7 @@
 // The parts of open windows, of queries that print what windows gain or lose.
-ghost use Rattle.std.specs.Prelude.{◌≡◌, ℕ, [], filter, nat_le, OnOk, OnErr};
+ghost use Rattle.std.specs.Prelude.{◌≡◌, ℕ, [], filter, nat_le, OnOk};
 ghost use Rattle.saber_plan.specs.Inputs.{Input};
+ghost use Rattle.saber_plan.specs.Texts.{Behind};
 ghost use Rattle.saber_fragment.specs.Shown.{shares_of};
 ghost use Rattle.saber_parts.specs.Stored.{parts_by, parts_from};
 ghost use Rattle.saber_parts.specs.Changing.{CanHand, Hands, Handed};
@@ -38,7 +39,8 @@ impl<P: Drop> ChangeStore<P> {
     }
 
     /// Takes in what the next task hands on, and appends what the windows that are closed now gain
-    /// or lose. After want of memory `out` is as before, and the store is only safe to let go.
+    /// or lose. After want of memory some of the text may be there, and the store is only safe to
+    /// let go.
     pub fn take_in<A: Assembles<Part = P>>(
         &mut self,
         alloc: Global,
@@ -50,10 +52,9 @@ impl<P: Drop> ChangeStore<P> {
         requires { CanHand (A.plan by.now) (parts_by A.shown self.old.parts.entries) self.old.walk (shares_of A.shown piece) }
         ensures ok { OnOk result ((r : Input) (x y : ℕ) → Hands (A.plan by.now) (parts_by A.shown self.old.parts.entries) self.old.walk (shares_of A.shown piece) r x y
             → Handed change (A.plan by.now) (parts_from A.shown self.new.walk.next self.new.parts.entries) self.new.walk out.old.items out.new.items r x y) }
-        ensures err { OnErr result (out.new.items ≡ out.old.items) }
+        ensures behind { Behind out.old.items out.new.items }
     {
-        let had = out.len();
-        match settle_changes(
+        settle_changes(
             alloc,
             by,
             change,
@@ -61,13 +62,8 @@ impl<P: Drop> ChangeStore<P> {
             &mut self.walk,
             piece,
             out,
-        ) {
-            Ok(()) => Ok(()),
-            Err(lacks) => {
-                out.truncate(had);
-                Err(lacks)
-            }
-        }
+        )?;
+        Ok(())
     }
 
     /// Drops the parts of closed windows. Takes no memory.

@@ -2,16 +2,18 @@
 //! Joins and selections with a window use it. Groups keep slices in place of parts by window.
 //!
 //! - Parts: `assembles` (the trait: how two parts merge, and how a whole one is printed),
-//!   `gathered` and `pieces` (what a task's windows give, by kind), `store`, `part_store`; `changes`
-//!   and `change_store` (the same under ISTREAM and DSTREAM, with the walk of `saber_changes`).
+//!   `gathered` and `pieces` (what a task's windows give, by kind), `store`, `part_store`;
+//!   `changes` and `change_store` (the same under ISTREAM and DSTREAM, with the walk of
+//!   `saber_changes`).
 //! - Calls: `piece_of_windows` makes a task's piece of the parts of its windows, and
-//!   `handed_of_windows` what it hands on under ISTREAM and DSTREAM. `PartStore::take_in` takes an operator that `Assembles`, the next task's piece, and the
-//!   text to which it appends; `drop_closed` lets the parts of closed windows go. `ChangeStore` has
-//!   the same two, and appends what windows gain or lose.
+//!   `handed_of_windows` what it hands on under ISTREAM and DSTREAM. `PartStore::take_in` takes an
+//!   operator that `Assembles`, the next task's piece, and the text to which it appends;
+//!   `drop_closed` lets the parts of closed windows go. `ChangeStore` has the same two, and appends
+//!   what windows gain or lose.
 //! - Proved: the text grows by what the piece adds, and the parts that it leaves open are kept
-//!   (`specs/Stored.antt`). After want of memory the text is as before, and the store only safe to
-//!   let go. All that is asked of parts is that two that merge are of rows that follow one another
-//!   (`AreNeighbors` of `saber_plan/specs/GivenRows.antt`).
+//!   (`specs/Stored.antt`). After want of memory some of the text may be there, behind what was in
+//!   it, and the store is only safe to let go. All that is asked of parts is that two that merge
+//!   are of rows that follow one another (`AreNeighbors` of `saber_plan/specs/GivenRows.antt`).
 //! - Limits: none but memory. A closed window's part stays until it is dropped.
 #![tactic(auto)]
 

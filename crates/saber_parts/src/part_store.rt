@@ -1,5 +1,6 @@
 // The parts of open windows.
-ghost use Rattle.std.specs.Prelude.{◌≡◌, ◌++◌, [], filter, nat_le, OnOk, OnErr};
+ghost use Rattle.std.specs.Prelude.{◌≡◌, ◌++◌, [], filter, nat_le, OnOk};
+ghost use Rattle.saber_plan.specs.Texts.{Behind};
 ghost use Rattle.saber_fragment.specs.Shown.{shares_of};
 ghost use Rattle.saber_fragment.specs.Stores.{Continues};
 ghost use Rattle.saber_parts.specs.Stored.{held_by, remainder_by, written_of, left_of};
@@ -40,7 +41,7 @@ impl<P: Drop> PartStore<P> {
     }
 
     /// Takes in the piece of the next task, and appends what it adds to the text. After want of
-    /// memory `out` is as before, and the store is only safe to let go.
+    /// memory some of the text may be there, and the store is only safe to let go.
     pub fn take_in<A: Assembles<Part = P>>(
         &mut self,
         by: &A,
@@ -50,17 +51,11 @@ impl<P: Drop> PartStore<P> {
         requires { Continues (A.plan by.now) (held_by A.shown self.old) (shares_of A.shown piece) }
         ensures text { OnOk result (out.new.items ≡ out.old.items ++ written_of A.shown (A.plan by.now) self.old.0 piece) }
         ensures stays { OnOk result (remainder_by A.shown self.new ≡ left_of A.shown (A.plan by.now) self.old.0 piece) }
-        ensures err { OnErr result (out.new.items ≡ out.old.items) }
+        ensures behind { Behind out.old.items out.new.items }
     {
-        let had = out.len();
         self.closed_below = piece.closed_below;
-        match settle(by, &mut self.parts, piece, out) {
-            Ok(()) => Ok(()),
-            Err(lacks) => {
-                out.truncate(had);
-                Err(lacks)
-            }
-        }
+        settle(by, &mut self.parts, piece, out)?;
+        Ok(())
     }
 
     /// Drops the parts of closed windows. Takes no memory.

@@ -6,8 +6,7 @@
 //!   `operator` (the trait's calls, and `NoStore`).
 //! - Call: `Select::new` takes a checked plan; the rest is by the trait of `saber_fragment`.
 //! - Proved: `start` gives exactly the text of the task's own rows (`specs/Texts.antt`),
-//!   `look_back` and `finish` leave it, and `take_in` appends it. After want of memory the text is
-//!   as before.
+//!   `look_back` and `finish` leave it, and `take_in` appends it.
 //! - Limits: plans without a stream word, and so without a window.
 #![tactic(auto)]
 

@@ -28,8 +28,8 @@ take_row-requires g c =
       keeps_first q xs r p m comes own.next own.begun own.parts.entries c.of_none-own.ensures.next c.of_none-own.ensures.begun c.of_none-own.ensures.parts c.requires.missing,
     )
 
-pub returns : goal.returns
-returns g c xs r comes =
+pub returns-clause-came : goal.returns-clause-came
+returns-clause-came g c xs r comes =
     let q = tree_of c.args.plan.now in
     let p = made_of c.args.parts.now c.args.row in
     let es = c.args.lists.now.entries in

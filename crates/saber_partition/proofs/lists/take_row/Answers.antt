@@ -36,8 +36,8 @@ take_first-requires-clause-missing g c =
     ap (λ l. get (lists_of l) k.items) (λ i. (c.get_mut.follows.holds-at-none i).entries)
     ∙ list_at k c.args.lists.now.entries None (sym c.get_mut.ensures.value ∙ ap option_copied_mut c.in-None.is)
 
-pub returns-in-Some : goal.returns-in-Some
-returns-in-Some g c =
+pub returns-in-Some-clause-came : goal.returns-in-Some-clause-came
+returns-in-Some-clause-came g c =
     let q = tree_of c.args.plan.now in
     let p = made_of c.args.parts.now c.args.row in
     let es = c.args.lists.now.entries in

@@ -1,6 +1,7 @@
 use Rattle.std.proofs.Common.{◌++◌, [], append-nil, sym, ◌∙◌, ap, append_assoc}
 use Rattle.saber_plan.specs.Parts.{part_lines}
 use Rattle.saber_fragment.specs.Shown.{windows_by}
+use Rattle.saber_fragment.proofs.Grown.{behind_both}
 use Rattle.saber_parts.specs.Stored.{lines_of}
 use Rattle.saber_parts.proofs.Ranged.{range_below}
 use Rattle.saber_parts.proofs.store.write_closed.Goals as goal
@@ -32,3 +33,6 @@ loop-window-preserved g c =
       rest = ap (λ l. l ++ rest) c.in_ok-lines.ensures.ok ∙ append_assoc old here rest ∙ ap (λ l. old ++ lines_of q (windows_by shown l)) (sym left) ∙ i.rest;
       behind = record { more = i.behind.more ++ here; all = c.in_ok-lines.ensures.ok ∙ ap (λ l. l ++ here) i.behind.all ∙ append_assoc c.args.out.now.items i.behind.more here };
     }
+
+pub returns-in_err-lines-clause-behind : goal.returns-in_err-lines-clause-behind
+returns-in_err-lines-clause-behind g c = behind_both c.args.out.now.items c.loop-window.out.items c.lines.new.out.items c.loop-window.invariant.behind c.lines.ensures.behind

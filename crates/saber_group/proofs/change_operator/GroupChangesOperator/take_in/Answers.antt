@@ -1,4 +1,4 @@
-use Rattle.std.proofs.Common.{◌++◌, ◌∙◌, ap}
+use Rattle.std.proofs.Common.{ap}
 use Rattle.saber_plan.specs.Trees.{tree_of}
 use Rattle.saber_group.specs.declared.change_stores.WalkStore.{WalkStore}
 use Rattle.saber_group.proofs.WalkKeeping.{walk_there, can_walk, took}
@@ -15,18 +15,23 @@ walk_uncounted-requires-clause-walk c = let (r, x, y, f) = c.requires in walk_th
 pub returns-clause-text : goal.returns-clause-text
 returns-clause-text c r x y f =
     let new : WalkStore = record { slices = record { windows = c.walk_uncounted.new.store; begun = c.begun_below-begun.result }; walk = c.walk_uncounted.new.walk } in
-    let done = took (tree_of c.self.inside.group) c.self.invariant.1 c.self.inside.change c.self.invariant.0 c.args.store.now c.args.piece c.closed_below-closed.result c.closed_below-closed.ensures new c.begun_below-begun.ensures
-    c.new-text.result.items c.walk_uncounted.new.out.items c.new-text.ensures.items c.in_ok-walk_uncounted.ensures (tree_of c.args.self.now) (ap tree_of c.self.view_is) r x y f in
-    c.in_ok-extend_from_slice.ensures.items ∙ ap (λ l. c.args.out.now.items ++ l) (c.deref.ensures.value ∙ done.adds)
+    (took (tree_of c.self.inside.group) c.self.invariant.1 c.self.inside.change c.self.invariant.0 c.args.store.now c.args.piece c.closed_below-closed.result c.closed_below-closed.ensures new c.begun_below-begun.ensures
+    c.args.out.now.items c.walk_uncounted.new.out.items c.in_ok-walk_uncounted.ensures.walked_by (tree_of c.args.self.now) (ap tree_of c.self.view_is) r x y f).adds
 
 pub returns-clause-stays : goal.returns-clause-stays
 returns-clause-stays c r x y f =
     let new : WalkStore = record { slices = record { windows = c.walk_uncounted.new.store; begun = c.begun_below-begun.result }; walk = c.walk_uncounted.new.walk } in
     (took (tree_of c.self.inside.group) c.self.invariant.1 c.self.inside.change c.self.invariant.0 c.args.store.now c.args.piece c.closed_below-closed.result c.closed_below-closed.ensures new c.begun_below-begun.ensures
-    c.new-text.result.items c.walk_uncounted.new.out.items c.new-text.ensures.items c.in_ok-walk_uncounted.ensures (tree_of c.args.self.now) (ap tree_of c.self.view_is) r x y f).stays
+    c.args.out.now.items c.walk_uncounted.new.out.items c.in_ok-walk_uncounted.ensures.walked_by (tree_of c.args.self.now) (ap tree_of c.self.view_is) r x y f).stays
 
 pub returns-clause-taken : goal.returns-clause-taken
 returns-clause-taken c r x y f =
     let new : WalkStore = record { slices = record { windows = c.walk_uncounted.new.store; begun = c.begun_below-begun.result }; walk = c.walk_uncounted.new.walk } in
     (took (tree_of c.self.inside.group) c.self.invariant.1 c.self.inside.change c.self.invariant.0 c.args.store.now c.args.piece c.closed_below-closed.result c.closed_below-closed.ensures new c.begun_below-begun.ensures
-    c.new-text.result.items c.walk_uncounted.new.out.items c.new-text.ensures.items c.in_ok-walk_uncounted.ensures (tree_of c.args.self.now) (ap tree_of c.self.view_is) r x y f).taken
+    c.args.out.now.items c.walk_uncounted.new.out.items c.in_ok-walk_uncounted.ensures.walked_by (tree_of c.args.self.now) (ap tree_of c.self.view_is) r x y f).taken
+
+pub returns-clause-behind : goal.returns-clause-behind
+returns-clause-behind c = c.walk_uncounted.ensures.behind
+
+pub returns-in_err-walk_uncounted-clause-behind : goal.returns-in_err-walk_uncounted-clause-behind
+returns-in_err-walk_uncounted-clause-behind c = c.walk_uncounted.ensures.behind

@@ -4,6 +4,7 @@ use Rattle.saber_plan.specs.declared.rows.Row.{Row}
 use Rattle.saber_plan.specs.declared.plans.Plan.{Plan}
 use Rattle.saber_plan.specs.declared.windows.Mark.{Mark}
 use Rattle.saber_plan.specs.Trees.{tree_of}
+use Rattle.saber_fragment.proofs.Grown.{behind_itself, behind_both}
 use Rattle.saber_group.specs.SliceParts.{part_of, lines_between, Holds}
 use Rattle.saber_group.proofs.SlicesTaken.{Along, text_nil, text_join, along_nil, along_below, along_can, along_more, along_holds, along_done, all_given}
 use Rattle.saber_group.proofs.GroupPlans.{has_window}
@@ -20,6 +21,7 @@ loop-slice-init g c =
       along = λ m xs o x y given. subst (λ l. Along q m xs o y s.next s.next s.slices.entries l c.args.closed) (sym all) (along_nil q m xs o x y s.next s.slices.entries c.args.slices.items c.args.closed given);
       text = λ m xs o x y given. text_nil q m xs s.next c.args.out.now.items;
       steps = let long = ap length all in omega (arith, long);
+      behind = behind_itself c.args.out.now.items;
     }
 
 pub take_in-requires : goal.take_in-requires
@@ -68,6 +70,7 @@ loop-slice-preserved g c =
           let closed = c.in_ok-close_lines.ensures.steps in
           let taken = c.in_ok-take_in.ensures.steps in
           omega (arith, used, long, closed, taken, same);
+      behind = behind_both c.args.out.now.items c.loop-slice.out.items c.close_lines.new.out.items c.loop-slice.invariant.behind c.close_lines.ensures.behind;
     }
 
 pub returns-clause-went_on : goal.returns-clause-went_on
@@ -97,3 +100,15 @@ returns-clause-steps g c =
     let none = ap length (all_given c.loop-slice.slice-iterator c.in-None.ensures.steps.0) in
     let closed = c.in_ok-close_lines-2.ensures.steps in
     omega (arith, used, none, closed)
+
+pub returns-in_err-close_lines-clause-behind : goal.returns-in_err-close_lines-clause-behind
+returns-in_err-close_lines-clause-behind g c = behind_both c.args.out.now.items c.loop-slice.out.items c.close_lines.new.out.items c.loop-slice.invariant.behind c.close_lines.ensures.behind
+
+pub returns-in_err-take_in-clause-behind : goal.returns-in_err-take_in-clause-behind
+returns-in_err-take_in-clause-behind g c = behind_both c.args.out.now.items c.loop-slice.out.items c.close_lines.new.out.items c.loop-slice.invariant.behind c.close_lines.ensures.behind
+
+pub returns-in_err-close_lines-2-clause-behind : goal.returns-in_err-close_lines-2-clause-behind
+returns-in_err-close_lines-2-clause-behind g c = behind_both c.args.out.now.items c.loop-slice.out.items c.close_lines-2.new.out.items c.loop-slice.invariant.behind c.close_lines-2.ensures.behind
+
+pub returns-clause-behind : goal.returns-clause-behind
+returns-clause-behind g c = behind_both c.args.out.now.items c.loop-slice.out.items c.close_lines-2.new.out.items c.loop-slice.invariant.behind c.close_lines-2.ensures.behind

@@ -2,6 +2,7 @@ use Rattle.std.proofs.Common.{◌≡◌, ℕ, ◌+◌, ◌*◌, ◌≤◌, List,
 use Rattle.std.specs.Vec.Iter.{into_iter_items}
 use Rattle.saber_plan.specs.declared.rows.Row.{Row}
 use Rattle.saber_plan.specs.declared.windows.Mark.{Mark}
+use Rattle.saber_plan.specs.Texts.{Behind}
 use Rattle.saber_plan.specs.Trees.{tree_of}
 use Rattle.saber_group.specs.SliceParts.{lines_between}
 use Rattle.saber_group.specs.SliceStores.{GoesOn}
@@ -17,4 +18,5 @@ invariant-loop-slice g l = record {
   text : (m : Mark) (all : List Row) (o x y : ℕ) → GoesOn (tree_of l.fn.self) m all o x y l.fn.store.next l.fn.store.slices.entries l.fn.slices.items l.fn.closed
       → l.out.items ≡ l.fn.out.items ++ lines_between (tree_of l.fn.self) m all l.fn.store.next l.store.next;
   steps : l.steps + l.store.slices.owed + l.fn.store.next + 2 * length (into_iter_items l.slice-iterator) ≤ l.fn.steps + l.fn.store.slices.owed + 2 * length l.fn.slices.items + l.store.next;
+  behind : Behind l.fn.out.items l.out.items;
 }

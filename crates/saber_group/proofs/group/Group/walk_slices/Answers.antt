@@ -4,6 +4,7 @@ use Rattle.saber_plan.specs.declared.plans.Plan.{Plan}
 use Rattle.saber_plan.specs.Trees.{tree_of}
 use Rattle.saber_changes.specs.Walks.{Walks}
 use Rattle.saber_changes.specs.WalkFacts.{walked_on}
+use Rattle.saber_fragment.proofs.Grown.{behind_itself, behind_both}
 use Rattle.saber_group.specs.SliceParts.{Holds, HoldStill}
 use Rattle.saber_group.specs.ChangeStores.{answers_over, HasPassed}
 use Rattle.saber_group.proofs.SlicesTaken.{Along, along_nil, along_below, along_can, along_more, along_holds, along_done, all_given}
@@ -23,6 +24,7 @@ loop-slice-init g c =
       along = λ m xs o x y given. subst (λ l. Along q m xs o y s.next s.next s.slices.entries l c.args.closed) (sym all) (along_nil q m xs o x y s.next s.slices.entries c.args.slices.items c.args.closed given);
       walks = λ m xs o x y given stands. walk_nil c.args.change q m xs c.args.walk.now s.next c.args.out.now.items c.requires.walk stands;
       steps = let long = ap length all in omega (arith, long);
+      behind = behind_itself c.args.out.now.items;
     }
 
 pub take_in-requires : goal.take_in-requires
@@ -81,6 +83,7 @@ loop-slice-preserved g c =
           let closed = c.in_ok-walk_lines.ensures.steps in
           let taken = c.in_ok-take_in.ensures.steps in
           omega (arith, used, long, closed, taken, same);
+      behind = behind_both c.args.out.now.items c.loop-slice.out.items c.walk_lines.new.out.items c.loop-slice.invariant.behind c.walk_lines.ensures.behind;
     }
 
 pub returns-clause-walked_on : goal.returns-clause-walked_on
@@ -120,3 +123,15 @@ returns-clause-steps g c =
     let none = ap length (all_given c.loop-slice.slice-iterator c.in-None.ensures.steps.0) in
     let closed = c.in_ok-walk_lines-2.ensures.steps in
     omega (arith, used, none, closed)
+
+pub returns-in_err-walk_lines-clause-behind : goal.returns-in_err-walk_lines-clause-behind
+returns-in_err-walk_lines-clause-behind g c = behind_both c.args.out.now.items c.loop-slice.out.items c.walk_lines.new.out.items c.loop-slice.invariant.behind c.walk_lines.ensures.behind
+
+pub returns-in_err-take_in-clause-behind : goal.returns-in_err-take_in-clause-behind
+returns-in_err-take_in-clause-behind g c = behind_both c.args.out.now.items c.loop-slice.out.items c.walk_lines.new.out.items c.loop-slice.invariant.behind c.walk_lines.ensures.behind
+
+pub returns-in_err-walk_lines-2-clause-behind : goal.returns-in_err-walk_lines-2-clause-behind
+returns-in_err-walk_lines-2-clause-behind g c = behind_both c.args.out.now.items c.loop-slice.out.items c.walk_lines-2.new.out.items c.loop-slice.invariant.behind c.walk_lines-2.ensures.behind
+
+pub returns-clause-behind : goal.returns-clause-behind
+returns-clause-behind g c = behind_both c.args.out.now.items c.loop-slice.out.items c.walk_lines-2.new.out.items c.loop-slice.invariant.behind c.walk_lines-2.ensures.behind

@@ -2,6 +2,7 @@ use Rattle.std.proofs.Common.{◌≡◌, ℕ, ◌+◌, ◌*◌, ◌≤◌, List,
 use Rattle.std.specs.Vec.Iter.{into_iter_items}
 use Rattle.saber_plan.specs.declared.rows.Row.{Row}
 use Rattle.saber_plan.specs.declared.windows.Mark.{Mark}
+use Rattle.saber_plan.specs.Texts.{Behind}
 use Rattle.saber_plan.specs.Trees.{tree_of}
 use Rattle.saber_changes.specs.Walks.{Stands, Walks}
 use Rattle.saber_group.specs.SliceStores.{GoesOn}
@@ -20,4 +21,5 @@ invariant-loop-slice g l = record {
       → Stands (answers_over (tree_of l.fn.self) m all) l.fn.walk
       → Walks l.fn.change (answers_over (tree_of l.fn.self) m all) l.fn.walk l.walk l.store.next l.fn.out.items l.out.items;
   steps : l.steps + l.store.slices.owed + l.fn.store.next + 2 * length (into_iter_items l.slice-iterator) ≤ l.fn.steps + l.fn.store.slices.owed + 2 * length l.fn.slices.items + l.store.next;
+  behind : Behind l.fn.out.items l.out.items;
 }

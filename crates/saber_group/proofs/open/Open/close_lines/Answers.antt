@@ -1,9 +1,11 @@
 use Rattle.std.proofs.Common.{◌≡◌, ◌+◌, List, [], sym, ◌∙◌, ap, subst, arith}
 use Rattle.saber_plan.specs.declared.rows.Row.{Row}
 use Rattle.saber_plan.specs.declared.windows.Mark.{Mark}
+use Rattle.saber_plan.specs.Parts.{part_lines}
 use Rattle.saber_plan.specs.Trees.{tree_of}
 use Rattle.saber_sliding.specs.Entries.{whole, part_at}
 use Rattle.saber_sliding.specs.EntryFacts.{nothing_first}
+use Rattle.saber_fragment.proofs.Grown.{behind_itself, behind_text}
 use Rattle.saber_group.specs.SliceParts.{Holds}
 use Rattle.saber_group.proofs.Opened.{holds_drop, holds_later, whole_is}
 use Rattle.saber_group.proofs.SlicesTaken.{text_nil, text_step, text_skip}
@@ -16,6 +18,7 @@ loop-self-init g c = record {
   slices = λ m rows h. h;
   text = λ m rows all h settled. text_nil (tree_of c.args.plan.now) m all c.args.self.now.next c.args.out.now.items;
   steps = omega arith;
+  behind = behind_itself c.args.out.now.items;
 }
 
 pub loop-self-preserved-in-Some : goal.loop-self-preserved-in-Some
@@ -40,6 +43,7 @@ loop-self-preserved-in-Some g c =
           (ap whole dropped_is ∙ whole_is q m rows n slices (c.loop-self.invariant.slices m rows h) ∙ settled n below)
           c.in_ok-lines-in-Some.ensures.ok (c.loop-self.invariant.text m rows all h settled);
       steps = omega (arith, used, dropped, written);
+      behind = behind_text c.args.out.now.items c.loop-self.out.items c.lines.new.out.items (part_lines q n (whole rest)) c.loop-self.invariant.behind c.in_ok-lines-in-Some.ensures.ok;
     }
 
 pub loop-self-preserved : goal.loop-self-preserved
@@ -62,6 +66,7 @@ loop-self-preserved g c =
       text = λ m rows all h settled. text_skip q m all c.args.self.now.next n low begun (omega (arith, below)) (λ i p r. sym (settled i r) ∙ (contents m rows h).at i p ∙ ap (λ es. part_at es i) none)
           c.args.out.now.items c.loop-self.out.items (c.loop-self.invariant.text m rows all h settled);
       steps = omega (arith, used, dropped, below);
+      behind = c.loop-self.invariant.behind;
     }
 
 pub returns-clause-slices : goal.returns-clause-slices

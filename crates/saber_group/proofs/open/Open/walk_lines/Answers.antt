@@ -5,6 +5,7 @@ use Rattle.saber_plan.specs.Trees.{tree_of}
 use Rattle.saber_sliding.specs.Entries.{whole, part_at}
 use Rattle.saber_sliding.specs.EntryFacts.{nothing_first}
 use Rattle.saber_changes.specs.Walks.{Walks}
+use Rattle.saber_fragment.proofs.Grown.{behind_itself, behind_both}
 use Rattle.saber_group.specs.SliceParts.{Holds}
 use Rattle.saber_group.specs.ChangeStores.{answers_over}
 use Rattle.saber_group.proofs.Opened.{holds_drop, holds_later, whole_is}
@@ -19,6 +20,7 @@ loop-self-init g c = record {
   slices = λ m rows h. h;
   text = λ m rows all h settled stands. walk_nil c.args.change (tree_of c.args.plan.now) m all c.args.walk.now c.args.self.now.next c.args.out.now.items c.requires.walk stands;
   steps = omega arith;
+  behind = behind_itself c.args.out.now.items;
 }
 
 pub loop-self-preserved-in-Some : goal.loop-self-preserved-in-Some
@@ -46,6 +48,7 @@ loop-self-preserved-in-Some g c =
           (ap whole dropped_is ∙ whole_is q m rows n slices (c.loop-self.invariant.slices m rows h) ∙ settled n below)
           c.in_ok-answers-in-Some.ensures.ok (c.loop-self.invariant.text m rows all h settled stands) c.in_ok-pass-in-Some.ensures.ok;
       steps = omega (arith, used, dropped, asked);
+      behind = behind_both c.args.out.now.items c.loop-self.out.items c.pass.new.out.items c.loop-self.invariant.behind c.in_ok-pass-in-Some.ensures.behind;
     }
 
 pub loop-self-preserved : goal.loop-self-preserved
@@ -72,6 +75,7 @@ loop-self-preserved g c =
           (λ i p r. sym (settled i r) ∙ (contents m rows h).at i p ∙ ap (λ es. part_at es i) none)
           (c.loop-self.invariant.text m rows all h settled stands) c.in_ok-reach-in-None.ensures.ok;
       steps = omega (arith, used, dropped, below);
+      behind = behind_both c.args.out.now.items c.loop-self.out.items c.reach.new.out.items c.loop-self.invariant.behind c.in_ok-reach-in-None.ensures.behind;
     }
 
 pub returns-clause-slices : goal.returns-clause-slices

@@ -1,6 +1,7 @@
 use Rattle.std.proofs.Common.{◌≡◌, ℕ, ◌+◌, ◌-◌, ◌≤◌, ◌<◌, max, List}
 use Rattle.saber_plan.specs.declared.rows.Row.{Row}
 use Rattle.saber_plan.specs.declared.windows.Mark.{Mark}
+use Rattle.saber_plan.specs.Texts.{Behind}
 use Rattle.saber_plan.specs.Trees.{tree_of}
 use Rattle.saber_changes.specs.Walks.{Stands, Walks}
 use Rattle.saber_group.specs.SliceParts.{part_of, Holds}
@@ -18,6 +19,7 @@ invariant-loop-self g l = record {
       → Stands (answers_over (tree_of l.fn.plan) m all) l.fn.walk
       → Walks l.change (answers_over (tree_of l.fn.plan) m all) l.fn.walk l.walk l.self.next l.fn.out.items l.out.items;
   steps : l.steps + l.self.slices.owed + l.fn.self.next ≤ l.fn.steps + l.fn.self.slices.owed + l.self.next;
+  behind : Behind l.fn.out.items l.out.items;
 }
 
 abbrev pub decreases-loop-self : goal.decreases-loop-self

@@ -32,7 +32,7 @@ returns-clause-taken c =
     let n_is = c.closed_below-closed.ensures in
     let new : SliceStore = record { windows = c.take_uncounted.new.store; begun = c.begun_below-begun.result } in
     subst (λ (t : Tree). (r : Input) (x y : ℕ) → Follows t k (λ u. TakenIn t u s) (λ r x y. IsOf t r x y p) r x y → TakenIn t (first_arrivals r y) new) (ap tree_of c.self.view_is) (λ r x y f.
-    let went = c.in_ok-take_uncounted.ensures (old_rows q r x y s p k f) (new_rows q r x y s p k f) (first_arrivals r y).ended (comes q r x y s p k f n n_is) in
+    let went = c.in_ok-take_uncounted.ensures.come (old_rows q r x y s p k f) (new_rows q r x y s p k f) (first_arrivals r y).ended (comes q r x y s p k f n n_is) in
     taken_after q r x y s p k f n n_is new c.begun_below-begun.ensures went.done_is went.holds)
 
 pub returns-clause-stays : goal.returns-clause-stays
@@ -45,7 +45,7 @@ returns-clause-stays c =
     let n_is = c.closed_below-closed.ensures in
     let new : SliceStore = record { windows = c.take_uncounted.new.store; begun = c.begun_below-begun.result } in
     subst (λ (t : Tree). (r : Input) (x y : ℕ) → Follows t k (λ u. TakenIn t u s) (λ r x y. IsOf t r x y p) r x y → by_windows (held_in new) ≡ kept_behind t (first_arrivals r y)) (ap tree_of c.self.view_is) (λ r x y f.
-    let went = c.in_ok-take_uncounted.ensures (old_rows q r x y s p k f) (new_rows q r x y s p k f) (first_arrivals r y).ended (comes q r x y s p k f n n_is) in
+    let went = c.in_ok-take_uncounted.ensures.come (old_rows q r x y s p k f) (new_rows q r x y s p k f) (first_arrivals r y).ended (comes q r x y s p k f n n_is) in
     ap by_windows (held_is q (has_window c.self.inside.group (ap (λ b. b.group) c.self-inside.view_is) c.self-inside.invariant.0 c.self-inside.invariant.1).group _ new (taken_after q r x y s p k f n n_is new c.begun_below-begun.ensures went.done_is went.holds))
     ∙ sym (alike_kept q c.self.invariant (first_arrivals r y)))
 
@@ -58,9 +58,13 @@ returns-clause-text c =
     let n = c.closed_below-closed.result in
     let n_is = c.closed_below-closed.ensures in
     let before = c.args.out.now.items in
-    subst (λ (t : Tree). (r : Input) (x y : ℕ) → Follows t k (λ u. TakenIn t u s) (λ r x y. IsOf t r x y p) r x y → c.extend_from_slice.new.self.items ≡ before ++ added_text t r x y) (ap tree_of c.self.view_is) (λ r x y f.
-    let went = c.in_ok-take_uncounted.ensures (old_rows q r x y s p k f) (new_rows q r x y s p k f) (first_arrivals r y).ended (comes q r x y s p k f n n_is) in
-    c.in_ok-extend_from_slice.ensures.items ∙ ap (λ l. before ++ l) (
-    c.deref.ensures.value
-    ∙ text_after q r x y s p k f n n_is c.take_uncounted.new.store.slices.entries c.take_uncounted.new.store.next c.new-text.result.items c.take_uncounted.new.out.items c.new-text.ensures.items went
-    ∙ added_is q (has_window c.self.inside.group (ap (λ b. b.group) c.self-inside.view_is) c.self-inside.invariant.0 c.self-inside.invariant.1).group c.self.invariant r x y))
+    subst (λ (t : Tree). (r : Input) (x y : ℕ) → Follows t k (λ u. TakenIn t u s) (λ r x y. IsOf t r x y p) r x y → c.take_uncounted.new.out.items ≡ before ++ added_text t r x y) (ap tree_of c.self.view_is) (λ r x y f.
+    let went = c.in_ok-take_uncounted.ensures.come (old_rows q r x y s p k f) (new_rows q r x y s p k f) (first_arrivals r y).ended (comes q r x y s p k f n n_is) in
+    text_after q r x y s p k f n n_is c.take_uncounted.new.store.slices.entries c.take_uncounted.new.store.next before c.take_uncounted.new.out.items went
+    ∙ ap (λ l. before ++ l) (added_is q (has_window c.self.inside.group (ap (λ b. b.group) c.self-inside.view_is) c.self-inside.invariant.0 c.self-inside.invariant.1).group c.self.invariant r x y))
+
+pub returns-clause-behind : goal.returns-clause-behind
+returns-clause-behind c = c.take_uncounted.ensures.behind
+
+pub returns-in_err-take_uncounted-clause-behind : goal.returns-in_err-take_uncounted-clause-behind
+returns-in_err-take_uncounted-clause-behind c = c.take_uncounted.ensures.behind

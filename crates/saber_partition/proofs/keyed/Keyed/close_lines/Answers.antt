@@ -1,8 +1,10 @@
 use Rattle.std.proofs.Common.{◌≡◌, ◌+◌, List, [], refl, sym, ◌∙◌, ap, subst, arith}
 use Rattle.saber_plan.specs.declared.rows.Row.{Row}
+use Rattle.saber_plan.specs.Parts.{part_lines}
 use Rattle.saber_plan.specs.Trees.{tree_of}
 use Rattle.saber_sliding.specs.Entries.{whole, part_at}
 use Rattle.saber_sliding.specs.EntryFacts.{nothing_first}
+use Rattle.saber_fragment.proofs.Grown.{behind_itself, behind_text}
 use Rattle.saber_partition.specs.Streams.{Holds}
 use Rattle.saber_partition.proofs.Streaming.{holds_drop, holds_later, whole_is, text_nil, text_step, text_skip}
 use Rattle.saber_partition.proofs.keyed.Keyed.close_lines.Goals as goal
@@ -15,6 +17,7 @@ loop-self-init g c = record {
   parts = λ us h. h;
   text = λ us h. text_nil (tree_of c.args.plan.now) us c.args.self.now.next c.args.out.now.items;
   steps = omega arith;
+  behind = behind_itself c.args.out.now.items;
 }
 
 pub loop-self-preserved-in-Some : goal.loop-self-preserved-in-Some
@@ -40,6 +43,7 @@ loop-self-preserved-in-Some g c =
           (ap whole dropped_is ∙ whole_is q us n es (c.loop-self.invariant.parts us h))
           c.in_ok-lines-in-Some.ensures.ok (c.loop-self.invariant.text us h);
       steps = omega (arith, used, dropped, written);
+      behind = behind_text c.args.out.now.items c.loop-self.out.items c.lines.new.out.items (part_lines q n (whole rest)) c.loop-self.invariant.behind c.in_ok-lines-in-Some.ensures.ok;
     }
 
 pub loop-self-preserved : goal.loop-self-preserved
@@ -63,6 +67,7 @@ loop-self-preserved g c =
       text = λ us h. text_skip q us c.args.self.now.next n low begun (omega (arith, below)) (λ i p r. (contents us h).at i p ∙ ap (λ es. part_at es i) none)
           c.args.out.now.items c.loop-self.out.items (c.loop-self.invariant.text us h);
       steps = omega (arith, used, dropped, below);
+      behind = c.loop-self.invariant.behind;
     }
 
 pub returns-clause-parts : goal.returns-clause-parts

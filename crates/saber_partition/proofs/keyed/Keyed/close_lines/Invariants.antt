@@ -1,5 +1,6 @@
 use Rattle.std.proofs.Common.{◌≡◌, ◌+◌, ◌-◌, ◌≤◌, max, List, ◌++◌}
 use Rattle.saber_plan.specs.declared.rows.Row.{Row}
+use Rattle.saber_plan.specs.Texts.{Behind}
 use Rattle.saber_plan.specs.Trees.{tree_of}
 use Rattle.saber_partition.specs.Streams.{lines_between, Holds}
 use Rattle.saber_partition.proofs.keyed.Keyed.close_lines.Given as goal
@@ -13,6 +14,7 @@ invariant-loop-self g l = record {
   text : (us : List Row) → Holds (tree_of l.fn.plan) us l.fn.self.next l.fn.self.parts.entries
       → l.out.items ≡ l.fn.out.items ++ lines_between (tree_of l.fn.plan) us l.fn.self.next l.self.next;
   steps : l.steps + l.self.parts.owed + l.fn.self.next ≤ l.fn.steps + l.fn.self.parts.owed + l.self.next;
+  behind : Behind l.fn.out.items l.out.items;
 }
 
 abbrev pub decreases-loop-self : goal.decreases-loop-self

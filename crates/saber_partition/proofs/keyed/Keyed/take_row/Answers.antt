@@ -1,5 +1,6 @@
 use Rattle.std.proofs.Common.{ℕ, max, ◌∙◌, ap, subst}
 use Rattle.saber_plan.specs.Trees.{tree_of}
+use Rattle.saber_fragment.proofs.Grown.{behind_itself}
 use Rattle.saber_partition.specs.Streams.{part_in, HoldStill, Printed}
 use Rattle.saber_partition.proofs.Streaming.{has_room, came}
 use Rattle.saber_partition.proofs.keyed.Keyed.take_row.Goals as goal
@@ -31,3 +32,12 @@ returns-clause-came g c us r comes keeps =
     (subst (λ (k : ℕ). Printed q k m.parts.entries n.next old new) same c.in_ok-close_lines.ensures.text)
     (c.in_ok-close_lines.ensures.next ∙ ap (λ (k : ℕ). max k c.args.low) same)
     (c.in_ok-close_lines.ensures.begun ∙ c.in_ok-take_part.ensures.begun)
+
+pub returns-in_err-take_part-clause-behind : goal.returns-in_err-take_part-clause-behind
+returns-in_err-take_part-clause-behind g c = behind_itself c.args.out.now.items
+
+pub returns-in_err-close_lines-clause-behind : goal.returns-in_err-close_lines-clause-behind
+returns-in_err-close_lines-clause-behind g c = c.close_lines.ensures.behind
+
+pub returns-clause-behind : goal.returns-clause-behind
+returns-clause-behind g c = c.close_lines.ensures.behind

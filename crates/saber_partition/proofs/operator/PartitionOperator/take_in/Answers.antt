@@ -1,7 +1,6 @@
 use Rattle.std.proofs.Common.{◌++◌, sym, ◌∙◌, ap}
 use Rattle.saber_plan.specs.Trees.{tree_of}
 use Rattle.saber_plan.specs.Inputs.{first_arrivals}
-use Rattle.saber_plan.specs.Tasks.{list_added}
 use Rattle.saber_partition.specs.Stores.{lists_of}
 use Rattle.saber_partition.proofs.Taking.{list_adds, keeps_rightly}
 use Rattle.saber_partition.proofs.Asking.{asks_in}
@@ -13,18 +12,21 @@ take_piece-requires-clause-follow c =
     (r, x, y, record { fits = f.fits; rises = f.rises; taken = f.taken_is; of_is = f.of_is })
 
 pub returns-clause-taken : goal.returns-clause-taken
-returns-clause-taken c r x y f = (c.in_ok-take_piece.ensures r x y (record { fits = f.fits; rises = f.rises; taken = f.taken_is; of_is = f.of_is })).taken
+returns-clause-taken c r x y f = (c.in_ok-take_piece.ensures.followed r x y (record { fits = f.fits; rises = f.rises; taken = f.taken_is; of_is = f.of_is })).taken
 
 pub returns-clause-stays : goal.returns-clause-stays
 returns-clause-stays c r x y f =
     keeps_rightly (tree_of c.args.self.now) (asks_in c.args.self.now c.self.view_is c.self.invariant.0 c.self.invariant.1 c.self.invariant.4) (first_arrivals r y) (lists_of c.take_piece.new.store.lists.entries)
-    (c.in_ok-take_piece.ensures r x y (record { fits = f.fits; rises = f.rises; taken = f.taken_is; of_is = f.of_is })).taken
+    (c.in_ok-take_piece.ensures.followed r x y (record { fits = f.fits; rises = f.rises; taken = f.taken_is; of_is = f.of_is })).taken
 
 pub returns-clause-text : goal.returns-clause-text
 returns-clause-text c r x y f =
     let q = tree_of c.args.self.now in
-    c.in_ok-extend_from_slice.ensures.items ∙ ap (λ l. c.args.out.now.items ++ l) (
-    c.deref.ensures.value
-    ∙ (c.in_ok-take_piece.ensures r x y (record { fits = f.fits; rises = f.rises; taken = f.taken_is; of_is = f.of_is })).text
-    ∙ ap (λ l. l ++ list_added q r x y) c.new-text.ensures.items
-    ∙ sym (list_adds q (asks_in c.args.self.now c.self.view_is c.self.invariant.0 c.self.invariant.1 c.self.invariant.4) r x y))
+    (c.in_ok-take_piece.ensures.followed r x y (record { fits = f.fits; rises = f.rises; taken = f.taken_is; of_is = f.of_is })).text
+    ∙ ap (λ l. c.args.out.now.items ++ l) (sym (list_adds q (asks_in c.args.self.now c.self.view_is c.self.invariant.0 c.self.invariant.1 c.self.invariant.4) r x y))
+
+pub returns-clause-behind : goal.returns-clause-behind
+returns-clause-behind c = c.take_piece.ensures.behind
+
+pub returns-in_err-take_piece-clause-behind : goal.returns-in_err-take_piece-clause-behind
+returns-in_err-take_piece-clause-behind c = c.take_piece.ensures.behind

@@ -1,6 +1,7 @@
 use Rattle.std.proofs.Common.{map, ◌++◌, sym, subst}
 use Rattle.saber_plan.specs.declared.plans.Plan.{Plan}
 use Rattle.saber_plan.specs.Trees.{tree_of}
+use Rattle.saber_fragment.proofs.Grown.{behind_both}
 use Rattle.saber_partition.specs.Pieces.{Follow, Followed}
 use Rattle.saber_partition.specs.Stores.{lists_of, made_of}
 use Rattle.saber_partition.proofs.Taking.{old_rows, new_rows, rows_come, followed}
@@ -20,8 +21,8 @@ take_rows-requires-clause-come g c =
 pub take_end-requires : goal.take_end-requires
 take_end-requires g c = asks_of (tree_of c.self.inside.plan.now) c.self.invariant.0 c.self.invariant.1 c.self.invariant.4
 
-pub returns : goal.returns
-returns g c r x y given =
+pub returns-clause-followed : goal.returns-clause-followed
+returns-clause-followed g c r x y given =
     let q = tree_of c.self.inside.plan.now in
     let asks = asks_of (tree_of c.self.inside.plan.now) c.self.invariant.0 c.self.invariant.1 c.self.invariant.4 in
     let ps = map (made_of c.args.piece.parts) c.args.piece.rows.items in
@@ -30,11 +31,20 @@ returns g c r x y given =
     let f = subst (λ (p : Plan). Follow (tree_of p) r x y ps ended m) (sym c.self.view_is) given in
     let old = old_rows q asks r x y ps ended m f in
     let new = new_rows q asks r x y ps ended m f in
-    let came = c.in_ok-take_rows.ensures old new (rows_come q asks r x y ps ended m f) in
+    let came = c.in_ok-take_rows.ensures.came old new (rows_come q asks r x y ps ended m f) in
     let before = c.args.out.now.items in
     let middle = c.take_rows.new.out.items in
     let after = c.take_end.new.out.items in
     let k = lists_of c.take_end.new.lists.entries in
     subst (λ (p : Plan). Followed (tree_of p) r x y k before after) c.self.view_is
     (followed q asks r x y ps ended m f (lists_of c.take_rows.new.lists.entries) k before middle after came
-    (c.in_ok-take_end.ensures (old ++ new) came.taken))
+    (c.in_ok-take_end.ensures.came (old ++ new) came.taken))
+
+pub returns-in_err-take_rows-clause-behind : goal.returns-in_err-take_rows-clause-behind
+returns-in_err-take_rows-clause-behind g c = c.take_rows.ensures.behind
+
+pub returns-in_err-take_end-clause-behind : goal.returns-in_err-take_end-clause-behind
+returns-in_err-take_end-clause-behind g c = behind_both c.args.out.now.items c.take_rows.new.out.items c.take_end.new.out.items c.take_rows.ensures.behind c.take_end.ensures.behind
+
+pub returns-clause-behind : goal.returns-clause-behind
+returns-clause-behind g c = behind_both c.args.out.now.items c.take_rows.new.out.items c.take_end.new.out.items c.take_rows.ensures.behind c.take_end.ensures.behind

@@ -4,7 +4,7 @@ use Rattle.saber_plan.specs.Parts.{numbers_of_one}
 use Rattle.saber_plan.specs.Facts.Trees.{sorted_seen}
 use Rattle.saber_join.specs.Found.{lines_for, values_in}
 use Rattle.saber_join.proofs.Lined.{values_seen}
-use Rattle.saber_join.proofs.pairs.Pairs.write_lines.Goals as goal
+use Rattle.saber_join.proofs.pairs.Pairs.lines.Goals as goal
 
 pub loop-values-init : goal.loop-values-init
 loop-values-init c =

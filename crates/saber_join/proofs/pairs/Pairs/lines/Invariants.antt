@@ -1,7 +1,7 @@
 use Rattle.std.proofs.Common.{◌≡◌, ◌++◌, map}
 use Rattle.saber_plan.specs.Texts.{Behind}
 use Rattle.saber_join.specs.Found.{lines_for, values_in}
-use Rattle.saber_join.proofs.pairs.Pairs.write_lines.Given as goal
+use Rattle.saber_join.proofs.pairs.Pairs.lines.Given as goal
 
 abbrev pub invariant-loop-values : goal.invariant-loop-values
 invariant-loop-values l = record {

@@ -2,7 +2,7 @@ use Rattle.std.proofs.Common.{◌≡◌, ◌++◌, take}
 use Rattle.saber_plan.specs.Texts.{Behind}
 use Rattle.saber_windowed.specs.Found.{lines_for, values_in}
 use Rattle.saber_windowed.specs.Spots.{found_in}
-use Rattle.saber_windowed.proofs.picked.Picked.write_lines.Given as goal
+use Rattle.saber_windowed.proofs.picked.Picked.lines.Given as goal
 
 abbrev pub invariant-loop-spot : goal.invariant-loop-spot
 invariant-loop-spot l = record {
