@@ -8,8 +8,9 @@
 //! - Proved (`specs/Chains.antt`): what goes out is what the second query gives over the lines that
 //!   the first gave, and the text of both where each has read to the end or to a line refused. The
 //!   first never fails to write. The second reads to the end only where the first one's text is
-//!   whole, is cut off only where that is, and is never too wide. Faults are real, and none is
-//!   passed over. Where the first one's thread was joined, nothing is left to send (`dismiss`);
+//!   whole, is cut off only where that is, and is never too wide. There was one write for each of
+//!   the second one's tasks that has text, and one more where it failed. Faults are real, and none
+//!   is passed over. Where the first one's thread was joined, nothing is left to send (`dismiss`);
 //!   else the second one's relay is handed what is left.
 //! - Not claimed: that both run at once. Where no thread can be had, the caller runs both; that
 //!   with one they do run at once a test with a gate sees.

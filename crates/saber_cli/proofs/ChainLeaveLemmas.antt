@@ -1,5 +1,5 @@
 -- What a chain leaves of its files, from what it did with each.
-use Rattle.std.proofs.Common.{◌≡◌, ◌<◌, ℕ, suc, List, [], ◌∷◌, ◌++◌, length, take, Option, Some, None, IfSome, refl, sym, ◌∙◌, ap, subst, arith, append-nil, append_assoc}
+use Rattle.std.proofs.Common.{◌≡◌, ◌<◌, ℕ, zero, suc, List, [], ◌∷◌, ◌++◌, length, take, Option, Some, None, IfSome, refl, sym, ◌∙◌, ap, subst, arith, append-nil, append_assoc}
 use Rattle.saber_io.specs.Outside.{FilesView, Closed, after_asking, after_closing}
 use Rattle.saber_plan.specs.Trees.{Tree}
 use Rattle.saber_words.specs.Chain.{AskedChain}
@@ -9,17 +9,22 @@ use Rattle.saber_notes.specs.declared.outcome.Outcome.{Outcome}
 use Rattle.saber_notes.specs.declared.outcome.Outcome.TheVariants.{Done, Usage, FileCount, QueryFault, SecondQueryFault, Unchainable, LineRefused, ChainLineRefused, OpenFault, ReadFault, TooWide, WriteFault, NoMemory}
 use Rattle.saber_cli.specs.Outcomes.{IsClean, IsOfPlan, IsUnopened}
 use Rattle.saber_cli.specs.Uses.{Uses, unasked, unopened, used, IsOfQueryFile, IsOpened}
-use Rattle.saber_cli.specs.Due.{Contents, first_run, names_of, row_names}
-use Rattle.saber_cli.specs.Leaves.{AreOf, Matches}
+use Rattle.saber_cli.specs.Due.{Contents, first_run, names_of, row_names, IsPlanned}
+use Rattle.saber_cli.specs.Leaves.{AreOf, Leaves, Matches}
+use Rattle.saber_cli.specs.Leaving.{AsksFile, LeavesTold}
 use Rattle.saber_cli.specs.RowFiles.{UsesRows, after_use}
-use Rattle.saber_cli.specs.Chained.{AsksChainRows, IsPlanned}
-use Rattle.saber_cli.specs.ChainLeaves.{LeavesBoth, LeavesChain, MatchesChain}
+use Rattle.saber_cli.specs.Chained.{AsksChainRows}
 use Rattle.saber_cli.specs.Chaining.{BothRead, IsMisfit, UsesChainRows, as_second}
+use Rattle.saber_cli.proofs.LeavesLemmas.{none_asked}
 use Rattle.saber_cli.proofs.RunLemmas.{used_contents}
+
+-- the files of a chain
+abbrev pub LeavesBoth : AskedChain → Outcome → FilesView → FilesView → Type 0
+LeavesBoth a o old new = Leaves 2 (names_of (chain a)) (AsksFile old.contents (chain a)) (Matches 2 (length (names_of (chain a))) o) old new
 
 -- ---- told or not
 
-told_chain : (a : AskedChain) (o : Outcome) (old new : Option FilesView) → ((t : FilesView) → old ≡ Some t → (u : FilesView) × (new ≡ Some u) × LeavesBoth a o t u) → LeavesChain a o old new
+told_chain : (a : AskedChain) (o : Outcome) (old new : Option FilesView) → ((t : FilesView) → old ≡ Some t → (u : FilesView) × (new ≡ Some u) × LeavesBoth a o t u) → LeavesTold (chain a) o old new
 told_chain a o None new h = tt
 told_chain a o (Some t) new h = h t refl
 
@@ -34,10 +39,17 @@ is_of old t name left faults e h = subst (λ o. IsOfTold o name left faults) e h
 abbrev IsFirstPlanned : AskedChain → Contents → Type 0
 IsFirstPlanned a files = (p : Tree) × IsPlanned files a.first p
 
--- ---- no file
+-- the second query's file is due behind a first one with a plan
+second_due : (a : AskedChain) (files : Contents) → IsFirstPlanned a files → (n : ℕ) → 0 < n → n < 2 → AsksFile files (chain a) n
+second_due a files g zero some few = absurd (omega (arith, some))
+second_due a files g (suc zero) some few = g
+second_due a files g (suc (suc n)) some few = absurd (omega (arith, few))
 
-pub none_asked : (a : AskedChain) (o : Outcome) (old : Option FilesView) → MatchesChain (length (names_of (chain a))) o 0 [] → LeavesChain a o old old
-none_asked a o old m = told_chain a o old old (λ t e. (t, e, record { contents = refl; count = 0; few = omega arith; second = λ k. absurd (omega (arith, k)); rows = λ k. absurd (omega (arith, k)); asked = sym (append-nil t.asked); given_back = []; closed = sym (append-nil t.closed); are_of = tt; matches = m }))
+-- and all are where both chain
+rows_due : (a : AskedChain) (files : Contents) → AsksChainRows files a → (n : ℕ) → 0 < n → AsksFile files (chain a) n
+rows_due a files r zero some = absurd (omega (arith, some))
+rows_due a files r (suc zero) some = (r.first, r.plans.first)
+rows_due a files r (suc (suc n)) some = r
 
 -- ---- the first query's file alone
 
@@ -49,13 +61,13 @@ back t name left faults = record { contents = t.contents; asked = t.asked ++ nam
 abbrev lost : FilesView → List ℕ → FilesView
 lost t name = record { contents = t.contents; asked = t.asked ++ name ∷ []; closed = t.closed }
 
-one_back : (a : AskedChain) (o : Outcome) (t : FilesView) (left : Option (List ℕ)) (faults : ℕ) → IsOfQueryFile t.contents a.first (left, faults) → MatchesChain (length (names_of (chain a))) o 1 ((left, faults) ∷ []) → LeavesBoth a o t (back t a.first left faults)
-one_back a o t left faults h m = record { contents = refl; count = 1; few = omega arith; second = λ k. absurd (omega (arith, k)); rows = λ k. absurd (omega (arith, k)); asked = refl; given_back = (left, faults) ∷ []; closed = refl; are_of = (h, tt); matches = m }
+one_back : (a : AskedChain) (o : Outcome) (t : FilesView) (left : Option (List ℕ)) (faults : ℕ) → IsOfQueryFile t.contents a.first (left, faults) → Matches 2 (length (names_of (chain a))) o 1 ((left, faults) ∷ []) → LeavesBoth a o t (back t a.first left faults)
+one_back a o t left faults h m = record { contents = refl; count = 1; few = omega arith; due = λ n some few. absurd (omega (arith, some, few)); asked = refl; given_back = (left, faults) ∷ []; closed = refl; are_of = (h, tt); matches = m }
 
 one_lost : (a : AskedChain) (t : FilesView) → LeavesBoth a (OpenFault Query) t (lost t a.first)
-one_lost a t = record { contents = refl; count = 1; few = omega arith; second = λ k. absurd (omega (arith, k)); rows = λ k. absurd (omega (arith, k)); asked = refl; given_back = []; closed = sym (append-nil t.closed); are_of = tt; matches = (refl, refl, tt) }
+one_lost a t = record { contents = refl; count = 1; few = omega arith; due = λ n some few. absurd (omega (arith, some, few)); asked = refl; given_back = []; closed = sym (append-nil t.closed); are_of = tt; matches = (refl, refl, tt) }
 
-plan_matches : (all : ℕ) (o : Outcome) (left : Option (List ℕ)) (faults : ℕ) → IsOfPlan o → IsOpened o → (o ≡ ReadFault Query → 0 < faults) → (IsClean o → faults ≡ 0) → MatchesChain all o 1 ((left, faults) ∷ [])
+plan_matches : (all : ℕ) (o : Outcome) (left : Option (List ℕ)) (faults : ℕ) → IsOfPlan o → IsOpened o → (o ≡ ReadFault Query → 0 < faults) → (IsClean o → faults ≡ 0) → Matches 2 all o 1 ((left, faults) ∷ [])
 plan_matches all Done left faults h p f c = absurd h
 plan_matches all Usage left faults h p f c = absurd h
 plan_matches all (FileCount streams given) left faults h p f c = absurd h
@@ -74,14 +86,14 @@ plan_matches all WriteFault left faults h p f c = absurd h
 plan_matches all NoMemory left faults h p f c = refl
 
 -- a first query that gave no plan
-pub first_leaves : (a : AskedChain) (o : Outcome) (old new : Option FilesView) → IsOfPlan o → Uses Query a.first o old new → LeavesChain a o old new
-first_leaves a o old new h (unasked e s) = subst (λ n. LeavesChain a o old n) (sym s) (none_asked a o old (subst (λ p. MatchesChain (length (names_of (chain a))) p 0 []) (sym e) refl))
+pub first_leaves : (a : AskedChain) (o : Outcome) (old new : Option FilesView) → IsOfPlan o → Uses Query a.first o old new → LeavesTold (chain a) o old new
+first_leaves a o old new h (unasked e s) = subst (λ n. LeavesTold (chain a) o old n) (sym s) (none_asked 2 (names_of (chain a)) (λ t. AsksFile t.contents (chain a)) o old (subst (λ p. Matches 2 (length (names_of (chain a))) p 0 []) (sym e) refl))
 first_leaves a o old new h (unopened e s) = told_chain a o old new (λ t k. (_, s ∙ ap (λ p. after_asking p a.first) k, subst (λ p. LeavesBoth a p t (lost t a.first)) (sym e) (one_lost a t)))
 first_leaves a o old new h (used left faults f c i p s) = told_chain a o old new (λ t k. (_, s ∙ ap (λ q. after_closing (after_asking q a.first) left faults) k, one_back a o t left faults (is_of old t a.first left faults k i) (plan_matches (length (names_of (chain a))) o left faults h p f c)))
 
 -- ---- the second query's file behind it
 
-second_matches : (all : ℕ) (o : Outcome) (l : Option (List ℕ)) (z : ℕ) (left : Option (List ℕ)) (faults : ℕ) → z ≡ 0 → IsOfPlan o → IsOpened o → (o ≡ ReadFault Query → 0 < faults) → (IsClean o → faults ≡ 0) → MatchesChain all (as_second o) 2 ((l, z) ∷ (left, faults) ∷ [])
+second_matches : (all : ℕ) (o : Outcome) (l : Option (List ℕ)) (z : ℕ) (left : Option (List ℕ)) (faults : ℕ) → z ≡ 0 → IsOfPlan o → IsOpened o → (o ≡ ReadFault Query → 0 < faults) → (IsClean o → faults ≡ 0) → Matches 2 all (as_second o) 2 ((l, z) ∷ (left, faults) ∷ [])
 second_matches all Done l z left faults n h p f c = absurd h
 second_matches all Usage l z left faults n h p f c = absurd h
 second_matches all (FileCount streams given) l z left faults n h p f c = absurd h
@@ -100,13 +112,12 @@ second_matches all WriteFault l z left faults n h p f c = absurd h
 second_matches all NoMemory l z left faults n h p f c = refl
 
 two_back : (a : AskedChain) (o : Outcome) (t : FilesView) (l : Option (List ℕ)) (z : ℕ) (left : Option (List ℕ)) (faults : ℕ) → IsFirstPlanned a t.contents → IsOfQueryFile t.contents a.first (l, z) → IsOfQueryFile t.contents a.second (left, faults)
-    → MatchesChain (length (names_of (chain a))) o 2 ((l, z) ∷ (left, faults) ∷ []) → LeavesBoth a o t (back (back t a.first l z) a.second left faults)
+    → Matches 2 (length (names_of (chain a))) o 2 ((l, z) ∷ (left, faults) ∷ []) → LeavesBoth a o t (back (back t a.first l z) a.second left faults)
 two_back a o t l z left faults g h i m = record {
   contents = refl;
   count = 2;
   few = omega arith;
-  second = λ k. g;
-  rows = λ k. absurd (omega (arith, k));
+  due = second_due a t.contents g;
   asked = append_assoc t.asked (a.first ∷ []) (a.second ∷ []);
   given_back = (l, z) ∷ (left, faults) ∷ [];
   closed = append_assoc t.closed ((l, z) ∷ []) ((left, faults) ∷ []);
@@ -119,8 +130,7 @@ two_lost a t l z n g h = record {
   contents = refl;
   count = 2;
   few = omega arith;
-  second = λ k. g;
-  rows = λ k. absurd (omega (arith, k));
+  due = second_due a t.contents g;
   asked = append_assoc t.asked (a.first ∷ []) (a.second ∷ []);
   given_back = (l, z) ∷ [];
   closed = refl;
@@ -130,7 +140,7 @@ two_lost a t l z n g h = record {
 
 -- behind a first query's source that had no faults
 behind_first : (a : AskedChain) (o : Outcome) (old mid new : Option FilesView) (l : Option (List ℕ)) (z : ℕ) → z ≡ 0 → IsOfTold old a.first l z → IfSome old (λ t. IsFirstPlanned a t.contents) → mid ≡ after_closing (after_asking old a.first) l z → IsOfPlan o → Uses Query a.second o mid new
-    → LeavesChain a (as_second o) old new
+    → LeavesTold (chain a) (as_second o) old new
 behind_first a o old mid new l z n i g s h (unasked e s') = told_chain a (as_second o) old new (λ t k. (_, s' ∙ s ∙ ap (λ q. after_closing (after_asking q a.first) l z) k, subst (λ p. LeavesBoth a (as_second p) t (back t a.first l z)) (sym e) (one_back a NoMemory t l z (is_of old t a.first l z k i) refl)))
 behind_first a o old mid new l z n i g s h (unopened e s') = told_chain a (as_second o) old new (λ t k. (
   _,
@@ -144,7 +154,7 @@ behind_first a o old mid new l z n i g s h (used left faults f c j p s') = told_
 ))
 
 -- a second query that gave no plan
-pub second_leaves : (a : AskedChain) (o : Outcome) (old mid new : Option FilesView) → IsOfPlan o → IfSome old (λ t. IsFirstPlanned a t.contents) → Uses Query a.first Done old mid → Uses Query a.second o mid new → LeavesChain a (as_second o) old new
+pub second_leaves : (a : AskedChain) (o : Outcome) (old mid new : Option FilesView) → IsOfPlan o → IfSome old (λ t. IsFirstPlanned a t.contents) → Uses Query a.first Done old mid → Uses Query a.second o mid new → LeavesTold (chain a) (as_second o) old new
 second_leaves a o old mid new h g (unasked e s) u = cc
 second_leaves a o old mid new h g (unopened e s) u = cc
 second_leaves a o old mid new h g (used l z f c i p s) u = behind_first a o old mid new l z (c tt) i g s h u
@@ -175,7 +185,7 @@ both_read first second old mid new (used l z f c i p s) (unopened e s') = cc
 both_read first second old mid new (used l z f c i p s) (used left faults f' c' j p' s') =
     both_used_by first second old mid new l z left faults (c tt) (c' tt) i (used_contents (λ files. IsOfQueryFile files second (left, faults)) first old mid (used l z f c i p s) j) s s'
 
-misfit_matches : (all : ℕ) (p q : Tree) (n : ℕ) (o : Outcome) (one two : Closed) → IsMisfit p q n o → one.1 ≡ 0 → two.1 ≡ 0 → MatchesChain all o 2 (one ∷ two ∷ [])
+misfit_matches : (all : ℕ) (p q : Tree) (n : ℕ) (o : Outcome) (one two : Closed) → IsMisfit p q n o → one.1 ≡ 0 → two.1 ≡ 0 → Matches 2 all o 2 (one ∷ two ∷ [])
 misfit_matches all p q n Done one two h z w = absurd h
 misfit_matches all p q n Usage one two h z w = absurd h
 misfit_matches all p q n (FileCount streams given) one two h z w = record { asked_for = refl; all = refl; good = (z, (w, tt)) }
@@ -191,7 +201,7 @@ misfit_matches all p q n WriteFault one two h z w = absurd h
 misfit_matches all p q n NoMemory one two h z w = absurd h
 
 -- two plans that make no chain
-pub misfit_leaves : (a : AskedChain) (p q : Tree) (n : ℕ) (o : Outcome) (old new : Option FilesView) → IsMisfit p q n o → IfSome old (λ t. IsFirstPlanned a t.contents) → BothRead a.first a.second old new → LeavesChain a o old new
+pub misfit_leaves : (a : AskedChain) (p q : Tree) (n : ℕ) (o : Outcome) (old new : Option FilesView) → IsMisfit p q n o → IfSome old (λ t. IsFirstPlanned a t.contents) → BothRead a.first a.second old new → LeavesTold (chain a) o old new
 misfit_leaves a p q n o old new h g b = told_chain a o old new (λ t k. (
   _,
   b.told ∙ ap (λ x. after_use x (a.first ∷ a.second ∷ []) (b.one ∷ b.two ∷ [])) k,
@@ -199,8 +209,7 @@ misfit_leaves a p q n o old new h g b = told_chain a o old new (λ t k. (
     contents = refl;
     count = 2;
     few = omega arith;
-    second = λ m. subst (λ x. IfSome x (λ v. IsFirstPlanned a v.contents)) k g;
-    rows = λ m. absurd (omega (arith, m));
+    due = second_due a t.contents (subst (λ x. IfSome x (λ v. IsFirstPlanned a v.contents)) k g);
     asked = refl;
     given_back = b.one ∷ b.two ∷ [];
     closed = refl;
@@ -212,7 +221,7 @@ misfit_leaves a p q n o old new h g b = told_chain a o old new (λ t k. (
 -- ---- the row files behind them
 
 -- row files that were asked for behind two queries that were read
-pub chain_rows_leave : (a : AskedChain) (o : Outcome) (old mid new : Option FilesView) → IfSome old (λ t. AsksChainRows t.contents a) → BothRead a.first a.second old mid → UsesChainRows (row_names (first_run a)) o mid new → LeavesChain a o old new
+pub chain_rows_leave : (a : AskedChain) (o : Outcome) (old mid new : Option FilesView) → IfSome old (λ t. AsksChainRows t.contents a) → BothRead a.first a.second old mid → UsesChainRows (row_names (first_run a)) o mid new → LeavesTold (chain a) o old new
 chain_rows_leave a o old mid new g b u = told_chain a o old new (λ t k. let m = b.told ∙ ap (λ x. after_use x (a.first ∷ a.second ∷ []) (b.one ∷ b.two ∷ [])) k in let r : AsksChainRows t.contents a = subst (λ x. IfSome x (λ v. AsksChainRows v.contents a)) k g in (
   _,
   u.told ∙ ap (λ x. after_use x (take u.count (row_names (first_run a))) u.given_back) m,
@@ -220,8 +229,7 @@ chain_rows_leave a o old mid new g b u = told_chain a o old new (λ t k. let m =
     contents = refl;
     count = suc (suc u.count);
     few = omega (arith, u.few);
-    second = λ n. (r.first, r.plans.first);
-    rows = λ n. r;
+    due = λ n some few. rows_due a t.contents r n some;
     asked = append_assoc t.asked (a.first ∷ a.second ∷ []) (take u.count (row_names (first_run a)));
     given_back = b.one ∷ b.two ∷ u.given_back;
     closed = append_assoc t.closed (b.one ∷ b.two ∷ []) u.given_back;
@@ -233,7 +241,7 @@ chain_rows_leave a o old mid new g b u = told_chain a o old new (λ t k. let m =
   },
 ))
 
-unopened_matches : (n : ℕ) (o : Outcome) (k : ℕ) (one two : Closed) (given_back : List Closed) → IsUnopened o → one.1 ≡ 0 → Matches (suc n) o (suc k) (two ∷ given_back) → MatchesChain (suc (suc n)) o (suc (suc k)) (one ∷ two ∷ given_back)
+unopened_matches : (n : ℕ) (o : Outcome) (k : ℕ) (one two : Closed) (given_back : List Closed) → IsUnopened o → one.1 ≡ 0 → Matches 1 (suc n) o (suc k) (two ∷ given_back) → Matches 2 (suc (suc n)) o (suc (suc k)) (one ∷ two ∷ given_back)
 unopened_matches n Done k one two given_back h z m = absurd h
 unopened_matches n Usage k one two given_back h z m = absurd h
 unopened_matches n (FileCount streams given) k one two given_back h z m = absurd h

@@ -1,5 +1,5 @@
 -- A chain over row files that are opened, run and given back.
-use Rattle.std.proofs.Common.{◌≡◌, ◌≢◌, ℕ, suc, List, [], ◌∷◌, length, map, Option, Some, None, IfSome, refl, sym, ◌∙◌, ap, subst, append_assoc, arith}
+use Rattle.std.proofs.Common.{◌≡◌, ◌≢◌, ℕ, suc, List, [], ◌∷◌, length, map, Option, Some, None, IfSome, refl, sym, ◌∙◌, ap, subst, arith}
 use Rattle.std.proofs.lemmas.List.{take_all}
 use Rattle.std.specs.Prelude.{Bool, true, false}
 use Rattle.saber_io.specs.Outside.{FilesView, Closed}
@@ -37,17 +37,15 @@ use Rattle.saber_cli.specs.Uses.{IsOpened}
 use Rattle.saber_cli.specs.Unread.{unread}
 use Rattle.saber_cli.specs.Due.{Contents, IsLike, contents_of, first_run, row_names}
 use Rattle.saber_cli.specs.Endings.{chained_as, ended_as, file_on, unless_cut}
-use Rattle.saber_cli.specs.Leaves.{HadNoFaults}
+use Rattle.saber_cli.specs.Leaves.{HadFaults, HadNoFaults, Matches}
 use Rattle.saber_cli.specs.RowFiles.{OpensAll, raised_by, after_use}
-use Rattle.saber_cli.specs.Chained.{AnswersChain, AsksChainRows, ChainsOver, CutTakesChain, HasPlans, HasReason, IsAnswered, IsChainable, RunsChain, chain_sizes, not_run, both_run}
+use Rattle.saber_cli.specs.Chained.{AnswersChain, AsksChainRows, ChainsOver, CutTakesChain, HasPlans, HasReason, IsAnswered, IsChainable, RunsChain, not_run, both_run}
 use Rattle.saber_cli.specs.Taken.{TakesOf, TakesRows}
-use Rattle.saber_cli.specs.ChainLeaves.{HadFaultsAt, LeavesChain, MatchesChain}
 use Rattle.saber_cli.specs.Chaining.{BothRead, ChainedIn, ChainedTold, CutTakes, RunsChainSo, UsesChainRows, all_run, none_run}
 use Rattle.saber_cli.proofs.FileLemmas.{rose_some}
 use Rattle.saber_cli.proofs.AnsweredLemmas.{clean_by, read_by, write_by}
 use Rattle.saber_cli.proofs.RowLemmas.{all_told, back_length, backs, both_used, faults_of, gave_length, lefts_of, no_faults_same, of_told, run_cause, run_takes}
 use Rattle.saber_cli.proofs.RunLemmas.{some_map}
-use Rattle.saber_cli.proofs.ChainLeaveLemmas.{none_asked}
 
 -- ---- the ends of both as one outcome
 
@@ -316,12 +314,12 @@ chain_not_before NoMemory h p b = b
 
 -- ---- the row files
 
-at_left : (xs ys : List Closed) (one two : Closed) → one.1 ≡ 0 → two.1 ≡ 0 → HadNoFaults xs → RoseAt sides.Left (map (λ s. s.1) xs) (map (λ s. s.1) ys) → HadFaultsAt (one ∷ two ∷ ys) 2
+at_left : (xs ys : List Closed) (one two : Closed) → one.1 ≡ 0 → two.1 ≡ 0 → HadNoFaults xs → RoseAt sides.Left (map (λ s. s.1) xs) (map (λ s. s.1) ys) → HadFaults 2 (one ∷ two ∷ ys) 2
 at_left [] ys one two z w h r = absurd r
 at_left (x ∷ xs) [] one two z w h r = absurd r
 at_left (x ∷ xs) (y ∷ ys) one two z w h r = record { source = y; there = refl; faults = rose_some x.1 y.1 h.0 r; before = (z, (w, tt)) }
 
-at_right : (xs ys : List Closed) (one two : Closed) → one.1 ≡ 0 → two.1 ≡ 0 → HadNoFaults xs → RoseAt sides.Right (map (λ s. s.1) xs) (map (λ s. s.1) ys) → HadFaultsAt (one ∷ two ∷ ys) 3
+at_right : (xs ys : List Closed) (one two : Closed) → one.1 ≡ 0 → two.1 ≡ 0 → HadNoFaults xs → RoseAt sides.Right (map (λ s. s.1) xs) (map (λ s. s.1) ys) → HadFaults 2 (one ∷ two ∷ ys) 3
 at_right [] ys one two z w h r = absurd r
 at_right (x ∷ []) ys one two z w h r = absurd r
 at_right (x ∷ v ∷ xs) [] one two z w h r = absurd r
@@ -329,7 +327,7 @@ at_right (x ∷ v ∷ xs) (y ∷ []) one two z w h r = absurd r
 at_right (x ∷ v ∷ xs) (y ∷ u ∷ ys) one two z w h r = record { source = u; there = refl; faults = rose_some v.1 u.1 h.1.0 r; before = (z, (w, tt)) }
 
 run_matches : (n : ℕ) (o : Outcome) (xs ys : List Closed) (one two : Closed) → IsOfChain o → IsOpened o → length ys ≡ n → HadNoFaults xs → (IsClean o → map (λ s. s.1) ys ≡ map (λ s. s.1) xs)
-    → ((side : Side) → o ≡ ReadFault (file_on side) → RoseAt side (map (λ s. s.1) xs) (map (λ s. s.1) ys)) → one.1 ≡ 0 → two.1 ≡ 0 → MatchesChain (suc (suc n)) o (suc (suc n)) (one ∷ two ∷ ys)
+    → ((side : Side) → o ≡ ReadFault (file_on side) → RoseAt side (map (λ s. s.1) xs) (map (λ s. s.1) ys)) → one.1 ≡ 0 → two.1 ≡ 0 → Matches 2 (suc (suc n)) o (suc (suc n)) (one ∷ two ∷ ys)
 run_matches n Done xs ys one two h p len y c r z w = record { asked_for = refl; all = omega (arith, len); good = (z, (w, no_faults_same xs ys (c tt) y)) }
 run_matches n Usage xs ys one two h p len y c r z w = absurd h
 run_matches n (FileCount streams given) xs ys one two h p len y c r z w = absurd h
@@ -408,23 +406,23 @@ chained_on p q s A B content had has o tasks f (all_run all e r) = all_run all e
 
 -- what was taken of the row files, behind both queries' files
 pub cut_takes : (a : AskedChain) (p : Tree) (old mid new : Option FilesView) → BothRead a.first a.second old mid
-    → IfSome old (λ t. (e : RunEnd) (n : ℕ) → CutTakes p (chain_sizes a) (row_names (first_run a)) mid new e n → CutTakesChain a t new p e n)
+    → IfSome old (λ t. (e : RunEnd) (n : ℕ) → CutTakes p a.sizes (row_names (first_run a)) mid new e n → CutTakesChain a t new p e n)
 cut_takes a p None mid new b = tt
 cut_takes a p (Some t) mid new b = λ e n h side k.
-    let w : TakesRows p a.task (limits_of (chain_sizes a)) n (row_names (first_run a)) mid new = h side k in (
+    let w : TakesRows p a.sizes.task (limits_of a.sizes) n (row_names (first_run a)) mid new = h side k in (
       _,
       w.told ∙ ap (λ o. after_use o (row_names (first_run a)) w.given_back) b.told,
       record {
-        first_query = b.one;
-        second_query = b.two;
+        before = b.one ∷ b.two ∷ [];
+        as_many = refl;
         given_back = w.given_back;
-        closed = append_assoc t.closed (b.one ∷ b.two ∷ []) w.given_back;
-        takes = subst (λ o. IfSome o (λ (u : FilesView). TakesOf p a.task (limits_of (chain_sizes a)) n u.contents (row_names (first_run a)) w.given_back)) b.told w.takes;
+        closed = refl;
+        takes = subst (λ o. IfSome o (λ (u : FilesView). TakesOf p a.sizes.task (limits_of a.sizes) n u.contents (row_names (first_run a)) w.given_back)) b.told w.takes;
       },
     )
 
 -- the run over the row files, behind two plans that chain
-pub chain_over : (files : Contents) (leaves : Tree → RunEnd → ℕ → Type 0) (a : AskedChain) (p q : Tree) (o : Outcome) (tasks : ℕ) (had has : SinkSeen) → HasPlans files a p q → IsChainable p q → IsLike (first_run a) p → ChainedIn p q (chain_sizes a) (leaves p) (contents_of files (row_names (first_run a))) had has o tasks → ChainsOver files leaves a o tasks had has
+pub chain_over : (files : Contents) (leaves : Tree → RunEnd → ℕ → Type 0) (a : AskedChain) (p q : Tree) (o : Outcome) (tasks : ℕ) (had has : SinkSeen) → HasPlans files a p q → IsChainable p q → IsLike (first_run a) p → ChainedIn p q a.sizes (leaves p) (contents_of files (row_names (first_run a))) had has o tasks → ChainsOver files leaves a o tasks had has
 chain_over files leaves a p q o tasks had has u k l (none_run h t n) = not_run (unopened_reason files a o (record { first = p; second = q; plans = u; chains = k; like = l }) h) t n
 chain_over files leaves a p q o tasks had has u k l (all_run all e r) = both_run (record { first = p; second = q; plans = u; chains = k; like = l }) all e r
 
@@ -439,10 +437,6 @@ pub unread_chained : (ws : List (List ℕ)) (a : AskedChain) (f : WordsFault) (t
 unread_chained ws a fault.NoMemory None new w h is = tt
 unread_chained ws a fault.NoMemory (Some t) new w h is = not_run tt refl refl
 unread_chained ws a fault.Usage told new w h is = let clash : Some (chain a) ≡ None = sym is ∙ h refl in cc
-
-pub unread_leaves : (ws : List (List ℕ)) (a : AskedChain) (f : WordsFault) (told : Option FilesView) → (f ≡ fault.Usage → command_of ws ≡ None) → command_of ws ≡ Some (chain a) → LeavesChain a (unread f) told told
-unread_leaves ws a fault.NoMemory told h is = none_asked a NoMemory told refl
-unread_leaves ws a fault.Usage told h is = let clash : Some (chain a) ≡ None = sym is ∙ h refl in cc
 
 pub unread_alone : (f : WordsFault) → IsOfSecond (unread f) → ⊥
 unread_alone fault.NoMemory k = k

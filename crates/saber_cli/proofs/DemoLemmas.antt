@@ -38,7 +38,8 @@ use Rattle.saber_cli.specs.Due.{Contents, Due, usage, missing, faulty, unlike, s
 use Rattle.saber_cli.specs.Causes.{HasCause, Allows}
 use Rattle.saber_cli.specs.Puts.{HasTasks, IsOfPut, PutsOut, PutsText, no_text}
 use Rattle.saber_cli.specs.Gives.{Gives}
-use Rattle.saber_cli.specs.Leaves.{LeavesTold, Matches}
+use Rattle.saber_cli.specs.Leaves.{Matches}
+use Rattle.saber_cli.specs.Leaving.{LeavesTold}
 use Rattle.saber_cli.specs.Unread.{unread}
 use Rattle.saber_cli.specs.Demo.{generated_input, summary_of_run, tasks_of_run}
 use Rattle.saber_cli.specs.Tells.{IsAnswer, IsWholeOrLacks, TellsRun}
@@ -125,23 +126,29 @@ written_is before after out none is = let same : after ≡ before ++ out = cc in
 -- ---- what goes out
 
 -- the summary of an answer, whose writing came to this
-pub answer_told : (d : AskedDemo) (o : Outcome) (answer : List ℕ) (tasks told : ℕ) (old new : Option (List ℕ)) (text out : List ℕ) → IsAnswer d answer tasks → text ≡ summary d.rows answer → told ≡ tasks → new ≡ appended_text old out → PutsText text o out → IsOfPut o
+pub answer_told : (d : AskedDemo) (o : Outcome) (answer : List ℕ) (tasks told : ℕ) (old new : Option (List ℕ)) (text out : List ℕ) → IsAnswer d answer tasks → text ≡ summary d.rows answer → ((o ≡ NoMemory → ⊥) → told ≡ tasks) → (o ≡ NoMemory → told ≡ 0) → new ≡ appended_text old out → PutsText text o out → IsOfPut o
     → TellsRun d o told old new
-answer_told d o answer tasks told old new text out a is same w p k = record {
+answer_told d o answer tasks told old new text out a is same none w p k = record {
   out = out;
   written = w;
   puts = subst (λ t. PutsText t o out) (is ∙ ap (summary d.rows) a.text_is) p;
-  tasks_are = record { few = omega (arith, same, a.tasks_are); all = λ e. same ∙ a.tasks_are };
+  tasks_are = record { all = λ e. same (⊎_elim not_after_done not_after_failed e) ∙ a.tasks_are; none = none };
   kinds = k;
 }
+  where
+    not_after_done : o ≡ Done → o ≡ NoMemory → ⊥
+    not_after_done e lacks = let clash : Done ≡ NoMemory = sym e ∙ lacks in cc
+
+    not_after_failed : o ≡ WriteFault → o ≡ NoMemory → ⊥
+    not_after_failed e lacks = let clash : WriteFault ≡ NoMemory = sym e ∙ lacks in cc
 
 -- nothing goes out for want of memory
-pub memory_told : (d : AskedDemo) (tasks : ℕ) (old : Option (List ℕ)) → tasks ≤ tasks_of_run d → TellsRun d NoMemory tasks old old
-memory_told d tasks old few = record {
+pub memory_told : (d : AskedDemo) (old : Option (List ℕ)) → TellsRun d NoMemory 0 old old
+memory_told d old = record {
   out = [];
   written = appended-none old;
   puts = no_text (λ e. cc) refl;
-  tasks_are = record { few = few; all = λ e. absurd (⊎_elim not_done not_failed e) };
+  tasks_are = record { all = λ e. absurd (⊎_elim not_done not_failed e); none = λ e. refl };
   kinds = tt;
 }
   where
@@ -153,12 +160,12 @@ memory_told d tasks old few = record {
 
 -- words that were not read
 pub unread_told : (ws : List (List ℕ)) (d : AskedDemo) (f : WordsFault) (old : Option (List ℕ)) → (f ≡ fault.Usage → command_of ws ≡ None) → command_of ws ≡ Some (demo d) → TellsRun d (unread f) 0 old old
-unread_told ws d fault.NoMemory old h is = memory_told d 0 old (omega arith)
+unread_told ws d fault.NoMemory old h is = memory_told d old
 unread_told ws d fault.Usage old h is = let clash : Some (demo d) ≡ None = sym is ∙ h refl in cc
 
 -- ---- the files
 
-tell_matches : (o : Outcome) → IsOfPut o → Matches 0 o 0 []
+tell_matches : (o : Outcome) → IsOfPut o → Matches 1 0 o 0 []
 tell_matches Done k = record { asked_for = refl; all = refl; good = tt }
 tell_matches Usage k = absurd k
 tell_matches (SecondQueryFault place why) k = absurd k
@@ -180,7 +187,7 @@ tell_leaves c d o old is k = subst (λ (a : Asked). LeavesTold a o old old) (sym
 -- ---- what is due
 
 tell_cause : (due : Due → Type 0) (text : List ℕ) (count : ℕ) (o : Outcome) → IsOfPut o → due (tells text count) → HasCause due o
-tell_cause due text count Done k t = inr (inr (record { out = text; count = count; is_due = t }))
+tell_cause due text count Done k t = inr (inr ((text, count, t)))
 tell_cause due text count Usage k t = absurd k
 tell_cause due text count (SecondQueryFault place why) k t = absurd k
 tell_cause due text count (Unchainable which) k t = absurd k
@@ -191,7 +198,7 @@ tell_cause due text count (LineRefused s n c) k t = absurd k
 tell_cause due text count (OpenFault f) k t = absurd k
 tell_cause due text count (ReadFault f) k t = absurd k
 tell_cause due text count (TooWide t' n r) k t = absurd k
-tell_cause due text count WriteFault k t = inr (inr (record { out = text; count = count; is_due = t }))
+tell_cause due text count WriteFault k t = inr (inr ((text, count, t)))
 tell_cause due text count NoMemory k t = tt
 
 tell_allows : (text : List ℕ) (count : ℕ) (o : Outcome) → IsOfPut o → Allows (tells text count) o

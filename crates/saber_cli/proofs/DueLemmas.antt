@@ -74,7 +74,7 @@ pub early_puts : (files : Contents) (c : Asked) (o : Outcome) (d : Due) → IsEa
 early_puts files c o usage h d = (refl, refl)
 early_puts files c o missing h d = (refl, refl)
 early_puts files c o (tells text count) h d = (
-  record { few = omega arith; all = λ e. absurd (⊎_elim (λ a. subst IsEarly a h) (λ a. subst IsEarly a h) e) },
+  record { all = λ e. absurd (⊎_elim (λ a. subst IsEarly a h) (λ a. subst IsEarly a h) e); none = λ e. refl },
   no_text (λ e. subst IsEarly e h) refl,
 )
 early_puts files c o (faulty b k) h d = (refl, refl)

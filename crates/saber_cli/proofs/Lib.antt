@@ -17,3 +17,4 @@ pub mod ChainLeaveLemmas
 pub mod ChainRunLemmas
 pub mod WorkedChain
 pub mod AloneLemmas
+pub mod NoteLemmas

@@ -115,17 +115,17 @@ no_faults_same xs [] e h = tt
 no_faults_same [] (y ∷ ys) e h = cc
 no_faults_same (x ∷ xs) (y ∷ ys) e h = let one : y.1 ≡ x.1 = cc in let more : map (λ s. s.1) ys ≡ map (λ s. s.1) xs = cc in (one ∙ h.0, no_faults_same xs ys more h.1)
 
-faulty_left : (xs ys : List Closed) (query : Closed) → query.1 ≡ 0 → HadNoFaults xs → RoseAt sides.Left (map (λ s. s.1) xs) (map (λ s. s.1) ys) → HadFaults (query ∷ ys) 1
+faulty_left : (xs ys : List Closed) (query : Closed) → query.1 ≡ 0 → HadNoFaults xs → RoseAt sides.Left (map (λ s. s.1) xs) (map (λ s. s.1) ys) → HadFaults 1 (query ∷ ys) 1
 faulty_left [] ys query z h r = absurd r
 faulty_left (x ∷ xs) [] query z h r = absurd r
-faulty_left (x ∷ xs) (y ∷ ys) query z h r = record { source = y; there = refl; faults = rose_some x.1 y.1 h.0 r; before = λ k. (z, tt) }
+faulty_left (x ∷ xs) (y ∷ ys) query z h r = record { source = y; there = refl; faults = rose_some x.1 y.1 h.0 r; before = (z, tt) }
 
-faulty_right : (xs ys : List Closed) (query : Closed) → query.1 ≡ 0 → HadNoFaults xs → RoseAt sides.Right (map (λ s. s.1) xs) (map (λ s. s.1) ys) → HadFaults (query ∷ ys) 2
+faulty_right : (xs ys : List Closed) (query : Closed) → query.1 ≡ 0 → HadNoFaults xs → RoseAt sides.Right (map (λ s. s.1) xs) (map (λ s. s.1) ys) → HadFaults 1 (query ∷ ys) 2
 faulty_right [] ys query z h r = absurd r
 faulty_right (x ∷ []) ys query z h r = absurd r
 faulty_right (x ∷ v ∷ xs) [] query z h r = absurd r
 faulty_right (x ∷ v ∷ xs) (y ∷ []) query z h r = absurd r
-faulty_right (x ∷ v ∷ xs) (y ∷ w ∷ ys) query z h r = record { source = w; there = refl; faults = rose_some v.1 w.1 h.1.0 r; before = λ k. (z, tt) }
+faulty_right (x ∷ v ∷ xs) (y ∷ w ∷ ys) query z h r = record { source = w; there = refl; faults = rose_some v.1 w.1 h.1.0 r; before = (z, tt) }
 
 -- ---- the files' own count
 
@@ -161,7 +161,7 @@ rose_right (x ∷ v ∷ xs) (y ∷ w ∷ ys) c h r =
     omega (arith, one, more)
 
 run_matches : (n : ℕ) (o : Outcome) (xs ys : List Closed) (query : Closed) → IsOfRun o → IsOpened o → length ys ≡ n → HadNoFaults xs → (IsClean o → map (λ s. s.1) ys ≡ map (λ s. s.1) xs)
-    → ((side : Side) → o ≡ ReadFault (file_on side) → RoseAt side (map (λ s. s.1) xs) (map (λ s. s.1) ys)) → query.1 ≡ 0 → Matches (suc n) o (suc n) (query ∷ ys)
+    → ((side : Side) → o ≡ ReadFault (file_on side) → RoseAt side (map (λ s. s.1) xs) (map (λ s. s.1) ys)) → query.1 ≡ 0 → Matches 1 (suc n) o (suc n) (query ∷ ys)
 run_matches n Done xs ys query h p len z c r q = record { asked_for = refl; all = omega (arith, len); good = (q, no_faults_same xs ys (c tt) z) }
 run_matches n Usage xs ys query h p len z c r q = absurd h
 run_matches n (SecondQueryFault place why) xs ys query h p len z c r q = absurd h

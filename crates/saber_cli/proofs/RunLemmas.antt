@@ -1,5 +1,6 @@
 -- What a run gives, from each way in which it ends.
 use Rattle.std.proofs.Common.{Bool, ◌≡◌, ◌⊎◌, inl, inr, ℕ, List, [], length, Option, Some, None, IfSome, refl, sym, ◌∙◌, ap, subst}
+use Rattle.saber_plan.specs.Sizes.{limits_of}
 use Rattle.saber_plan.specs.Rows.{Read}
 use Rattle.saber_plan.specs.Trees.{Tree}
 use Rattle.saber_io.specs.Outside.{FilesView, content_in}
@@ -18,7 +19,8 @@ use Rattle.saber_cli.specs.Texts.{BeginsFile}
 use Rattle.saber_cli.specs.Endings.{EndsSo}
 use Rattle.saber_cli.specs.Answered.{Answered, AnsweredIn}
 use Rattle.saber_cli.specs.Planned.{IsTextFault}
-use Rattle.saber_cli.specs.Due.{Contents, Due, usage, missing, faulty, unlike, shows, tells, runs, IsDueFor, AsksRows, HasRun, IsLike, no_query, no_rows, row_names, contents_of, asked_limits}
+use Rattle.saber_cli.specs.Leaving.{AsksFile}
+use Rattle.saber_cli.specs.Due.{Contents, Due, usage, missing, faulty, unlike, shows, tells, runs, IsDueFor, HasRun, IsLike, no_query, no_rows, row_names, contents_of}
 use Rattle.saber_cli.specs.Causes.{HasCause, Allows, Ends}
 use Rattle.saber_cli.specs.Puts.{PutsOut}
 use Rattle.saber_cli.specs.Gives.{Gives}
@@ -202,7 +204,7 @@ alike : (files : Contents) (r : AskedRun) (p : Tree) (s g : ℕ) → HasRun file
 alike files r p s g u l d = d.4 (sym d.2 ∙ ap (λ (t : Tree). length t.streams) (run_is files r p d.0 u d.1) ∙ l ∙ d.3)
 
 -- the row files are asked for
-pub asks_rows : (files : Contents) (r : AskedRun) (p : Tree) → HasRun files r p → IsLike r p → AsksRows files (run r)
+pub asks_rows : (files : Contents) (r : AskedRun) (p : Tree) → HasRun files r p → IsLike r p → AsksFile files (run r) 1
 asks_rows files r p u l = (p, u, l)
 
 -- the run of a plan over row files that are there
@@ -212,16 +214,16 @@ record Over (files : Contents) (r : AskedRun) (p : Tree) (all : List (List ℕ))
   there : contents_of files (row_names r) ≡ Some all
 
 -- what is due of it
-over_due : (files : Contents) (r : AskedRun) (p : Tree) (all : List (List ℕ)) → Over files r p all → IsDueFor files (run r) (runs p r.task r.ring r.flush (input_of p (asked_limits r) all))
+over_due : (files : Contents) (r : AskedRun) (p : Tree) (all : List (List ℕ)) → Over files r p all → IsDueFor files (run r) (runs p r.sizes.task r.sizes.ring r.sizes.flush (input_of p (limits_of r.sizes) all))
 over_due files r p all u = (all, u.has, u.like, u.there, record { task = refl; cells = refl; closes = refl }, refl)
 
 -- and nothing else is
-due_is : (files : Contents) (r : AskedRun) (p : Tree) (all : List (List ℕ)) (q : Tree) (n ring : ℕ) (flush : Bool) (read : Read) → Over files r p all → IsDueFor files (run r) (runs q n ring flush read) → runs p r.task r.ring r.flush (input_of p (asked_limits r) all) ≡ runs q n ring flush read
+due_is : (files : Contents) (r : AskedRun) (p : Tree) (all : List (List ℕ)) (q : Tree) (n ring : ℕ) (flush : Bool) (read : Read) → Over files r p all → IsDueFor files (run r) (runs q n ring flush read) → runs p r.sizes.task r.sizes.ring r.sizes.flush (input_of p (limits_of r.sizes) all) ≡ runs q n ring flush read
 due_is files r p all q n ring flush read u d =
     let same : q ≡ p = run_is files r p q u.has d.1 in
     let f : Some d.0 ≡ Some all = sym d.3 ∙ u.there in
     let same_all : d.0 ≡ all = cc in
-    let rows : read ≡ input_of p (asked_limits r) all = d.5 ∙ (λ i. input_of (same i) (asked_limits r) (same_all i)) in
+    let rows : read ≡ input_of p (limits_of r.sizes) all = d.5 ∙ (λ i. input_of (same i) (limits_of r.sizes) (same_all i)) in
     sym (λ i. runs (same i) (d.4.task i) (d.4.cells i) (d.4.closes i) (rows i))
 
 -- no file is missing
@@ -235,8 +237,8 @@ over_there files r p all u (no_rows asked q s h l m) =
     cc
 
 -- its cause
-over_ends : (files : Contents) (r : AskedRun) (p : Tree) (all : List (List ℕ)) (o : Outcome) → Over files r p all → EndsSo p r.task r.ring r.flush (input_of p (asked_limits r) all) o → Ends (IsDueFor files (run r)) o
-over_ends files r p all o u f = record { plan = p; task = r.task; ring = r.ring; flush = r.flush; read = input_of p (asked_limits r) all; is_due = over_due files r p all u; ends = f }
+over_ends : (files : Contents) (r : AskedRun) (p : Tree) (all : List (List ℕ)) (o : Outcome) → Over files r p all → EndsSo p r.sizes.task r.sizes.ring r.sizes.flush (input_of p (limits_of r.sizes) all) o → Ends (IsDueFor files (run r)) o
+over_ends files r p all o u f = record { plan = p; task = r.sizes.task; ring = r.sizes.ring; flush = r.sizes.flush; read = input_of p (limits_of r.sizes) all; is_due = over_due files r p all u; ends = f }
 
 run_cause : (due : Due → Type 0) (o : Outcome) → IsOfRun o → Ends due o → HasCause due o
 run_cause due Done k f = inl f
@@ -268,16 +270,16 @@ run_allows (TooWide t l r) q n ring flush read k f = inl (tt, f)
 run_allows WriteFault q n ring flush read k f = inr (inr (inl refl))
 run_allows NoMemory q n ring flush read k f = inr (inr (inr refl))
 
-over_allowed : (files : Contents) (r : AskedRun) (p : Tree) (all : List (List ℕ)) (o : Outcome) (d : Due) → Over files r p all → IsOfRun o → EndsSo p r.task r.ring r.flush (input_of p (asked_limits r) all) o → IsDueFor files (run r) d → Allows d o
+over_allowed : (files : Contents) (r : AskedRun) (p : Tree) (all : List (List ℕ)) (o : Outcome) (d : Due) → Over files r p all → IsOfRun o → EndsSo p r.sizes.task r.sizes.ring r.sizes.flush (input_of p (limits_of r.sizes) all) o → IsDueFor files (run r) d → Allows d o
 over_allowed files r p all o usage u k f d = absurd d
 over_allowed files r p all o missing u k f d = absurd (over_there files r p all u d)
 over_allowed files r p all o (tells t n) u k f d = absurd d
 over_allowed files r p all o (faulty b x) u k f d = absurd (not_faulty files r p b x u.has d)
 over_allowed files r p all o (unlike s g) u k f d = absurd (alike files r p s g u.has u.like d)
 over_allowed files r p all o (shows out) u k f d = absurd d
-over_allowed files r p all o (runs q n ring flush read) u k f d = subst (λ x. Allows x o) (due_is files r p all q n ring flush read u d) (run_allows o p r.task r.ring r.flush (input_of p (asked_limits r) all) k f)
+over_allowed files r p all o (runs q n ring flush read) u k f d = subst (λ x. Allows x o) (due_is files r p all q n ring flush read u d) (run_allows o p r.sizes.task r.sizes.ring r.sizes.flush (input_of p (limits_of r.sizes) all) k f)
 
-over_puts : (files : Contents) (r : AskedRun) (p : Tree) (all : List (List ℕ)) (o : Outcome) (tasks : ℕ) (out : List ℕ) (d : Due) → Over files r p all → PutsOut (runs p r.task r.ring r.flush (input_of p (asked_limits r) all)) o tasks out → IsDueFor files (run r) d → PutsOut d o tasks out
+over_puts : (files : Contents) (r : AskedRun) (p : Tree) (all : List (List ℕ)) (o : Outcome) (tasks : ℕ) (out : List ℕ) (d : Due) → Over files r p all → PutsOut (runs p r.sizes.task r.sizes.ring r.sizes.flush (input_of p (limits_of r.sizes) all)) o tasks out → IsDueFor files (run r) d → PutsOut d o tasks out
 over_puts files r p all o tasks out usage u a d = absurd d
 over_puts files r p all o tasks out missing u a d = absurd (over_there files r p all u d)
 over_puts files r p all o tasks out (tells t n) u a d = absurd d
@@ -286,7 +288,7 @@ over_puts files r p all o tasks out (unlike s g) u a d = absurd (alike files r p
 over_puts files r p all o tasks out (shows t) u a d = absurd d
 over_puts files r p all o tasks out (runs q n ring flush read) u a d = subst (λ x. PutsOut x o tasks out) (due_is files r p all q n ring flush read u d) a
 
-over_gives : (files : Contents) (r : AskedRun) (p : Tree) (all : List (List ℕ)) (o : Outcome) (tasks : ℕ) (out : List ℕ) → Over files r p all → IsOfRun o → Answered p r.task r.ring r.flush (input_of p (asked_limits r) all) o tasks out → Gives files (run r) o tasks out
+over_gives : (files : Contents) (r : AskedRun) (p : Tree) (all : List (List ℕ)) (o : Outcome) (tasks : ℕ) (out : List ℕ) → Over files r p all → IsOfRun o → Answered p r.sizes.task r.sizes.ring r.sizes.flush (input_of p (limits_of r.sizes) all) o tasks out → Gives files (run r) o tasks out
 over_gives files r p all o tasks out u k a = record {
   cause = run_cause (IsDueFor files (run r)) o k (over_ends files r p all o u a.ends);
   allows = λ d x. over_allowed files r p all o d u k a.ends x;
@@ -327,12 +329,12 @@ gone_gives files r p o tasks out u l e h t n = subst (λ x. Gives files (run r) 
 }))
 
 answered_gives : (files : Contents) (r : AskedRun) (p : Tree) (content : Option (List (List ℕ))) (o : Outcome) (tasks : ℕ) (out : List ℕ) → HasRun files r p → IsLike r p → contents_of files (row_names r) ≡ content → IsOfRun o
-    → AnsweredIn p r.task r.ring (asked_limits r) r.flush content o tasks out → Gives files (run r) o tasks out
+    → AnsweredIn p r.sizes.task r.sizes.ring (limits_of r.sizes) r.sizes.flush content o tasks out → Gives files (run r) o tasks out
 answered_gives files r p None o tasks out u l e k a = gone_gives files r p o tasks out u l e a.0 a.1 a.2
 answered_gives files r p (Some all) o tasks out u l e k a = over_gives files r p all o tasks out (record { has = u; like = l; there = e }) k a
 
 -- a run over its row files, behind a query with as many streams
-pub gives_answer : (files : Contents) (r : AskedRun) (p : Tree) (o : Outcome) (tasks : ℕ) (out : List ℕ) → HasRun files r p → IsLike r p → IsOfRun o → AnsweredIn p r.task r.ring (asked_limits r) r.flush (contents_of files (row_names r)) o tasks out → Gives files (run r) o tasks out
+pub gives_answer : (files : Contents) (r : AskedRun) (p : Tree) (o : Outcome) (tasks : ℕ) (out : List ℕ) → HasRun files r p → IsLike r p → IsOfRun o → AnsweredIn p r.sizes.task r.sizes.ring (limits_of r.sizes) r.sizes.flush (contents_of files (row_names r)) o tasks out → Gives files (run r) o tasks out
 gives_answer files r p o tasks out u l k a = answered_gives files r p (contents_of files (row_names r)) o tasks out u l refl k a
 
 -- ---- where files tell

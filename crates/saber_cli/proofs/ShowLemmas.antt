@@ -94,8 +94,8 @@ due_shows files c whole out e d =
 -- ---- a text that is shown
 
 shown_cause : (due : Due → Type 0) (o : Outcome) (shown : List ℕ) → due (shows shown) → (o ≡ Done) ⊎ (o ≡ WriteFault) → HasCause due o
-shown_cause due o shown s (inl e) = subst (HasCause due) (sym e) (inr (inl (record { out = shown; is_due = s })))
-shown_cause due o shown s (inr e) = subst (HasCause due) (sym e) (inr (inl (record { out = shown; is_due = s })))
+shown_cause due o shown s (inl e) = subst (HasCause due) (sym e) (inr (inl ((shown, s))))
+shown_cause due o shown s (inr e) = subst (HasCause due) (sym e) (inr (inl ((shown, s))))
 
 shown_allowed : (files : Contents) (c : AskedCheck) (whole shown : List ℕ) (o : Outcome) (d : Due) → content_in files c.query ≡ Some whole → Shows whole shown → (o ≡ Done) ⊎ (o ≡ WriteFault) → IsDueFor files (check c) d → Allows d o
 shown_allowed files c whole shown o usage e s k d = absurd d

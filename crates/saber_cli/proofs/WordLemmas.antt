@@ -7,25 +7,25 @@ use Rattle.saber_notes.specs.declared.outcome.InputFile.{InputFile}
 use Rattle.saber_notes.specs.declared.outcome.Outcome.{Outcome}
 use Rattle.saber_notes.specs.declared.outcome.Outcome.TheVariants.{Done, Usage, FileCount, QueryFault, SecondQueryFault, Unchainable, LineRefused, ChainLineRefused, OpenFault, ReadFault, TooWide, WriteFault, NoMemory}
 use Rattle.saber_io.specs.Outside.{FilesView}
-use Rattle.saber_cli.specs.Due.{Contents, Due, IsDueFor, IsDue, no_command, by_command, names_of, AsksRows}
-use Rattle.saber_cli.specs.Leaves.{LeavesTold}
-use Rattle.saber_cli.specs.Causes.{HasCause, Allows, Ends, ShowsText, TellsSummary}
+use Rattle.saber_cli.specs.Due.{Contents, Due, IsDueFor, IsDue, no_command, by_command, names_of, shows, tells}
+use Rattle.saber_cli.specs.Leaving.{AsksFile, LeavesTold, query_count}
+use Rattle.saber_cli.specs.Causes.{HasCause, Allows, Ends}
 use Rattle.saber_cli.specs.Puts.{PutsOut}
 use Rattle.saber_cli.specs.Gives.{Gives, Answers}
 use Rattle.saber_cli.specs.Unread.{unread}
 use Rattle.saber_cli.proofs.DueLemmas.{memory_allowed_for, early_puts}
-use Rattle.saber_cli.proofs.LeavesLemmas.{none_left}
+use Rattle.saber_cli.proofs.LeavesLemmas.{none_asked}
 
 -- ---- causes
 
 more_ends : (p q : Due → Type 0) (o : Outcome) → ((d : Due) → p d → q d) → Ends p o → Ends q o
 more_ends p q o f e = record { plan = e.plan; task = e.task; ring = e.ring; flush = e.flush; read = e.read; is_due = f _ e.is_due; ends = e.ends }
 
-more_shows : (p q : Due → Type 0) → ((d : Due) → p d → q d) → ShowsText p → ShowsText q
-more_shows p q f s = record { out = s.out; is_due = f _ s.is_due }
+more_shows : (p q : Due → Type 0) → ((d : Due) → p d → q d) → (out : List ℕ) × p (shows out) → (out : List ℕ) × q (shows out)
+more_shows p q f s = (s.0, f _ s.1)
 
-more_tells : (p q : Due → Type 0) → ((d : Due) → p d → q d) → TellsSummary p → TellsSummary q
-more_tells p q f s = record { out = s.out; count = s.count; is_due = f _ s.is_due }
+more_tells : (p q : Due → Type 0) → ((d : Due) → p d → q d) → (out : List ℕ) × (count : ℕ) × p (tells out count) → (out : List ℕ) × (count : ℕ) × q (tells out count)
+more_tells p q f s = (s.0, s.1, f _ s.2)
 
 -- what is due more widely is a cause too
 more_cause : (p q : Due → Type 0) (o : Outcome) → ((d : Due) → p d → q d) → HasCause p o → HasCause q o
@@ -94,5 +94,5 @@ unread_answers ws files fault.Usage h = usage_answers ws files (h refl)
 
 -- none of their files is asked for
 pub unread_leave : (ws : List (List ℕ)) (c : Asked) (f : WordsFault) (told : Option FilesView) → (f ≡ fault.Usage → command_of ws ≡ None) → command_of ws ≡ Some c → LeavesTold c (unread f) told told
-unread_leave ws c fault.NoMemory told h is = none_left (names_of c) (λ t. AsksRows t.contents c) NoMemory told refl
+unread_leave ws c fault.NoMemory told h is = none_asked (query_count c) (names_of c) (λ t. AsksFile t.contents c) NoMemory told refl
 unread_leave ws c fault.Usage told h is = let clash : Some c ≡ None = sym is ∙ h refl in cc

@@ -1,5 +1,5 @@
 -- What the statements on a chain say, and what they refuse.
-use Rattle.std.proofs.Common.{◌≡◌, ◌⊎◌, inl, inr, ℕ, List, Option, Some, true, false, refl, sym, ◌∙◌, subst}
+use Rattle.std.proofs.Common.{◌≡◌, ◌⊎◌, inl, inr, ℕ, List, Some, true, false, refl, sym, ◌∙◌, subst}
 use Rattle.saber_plan.specs.Outputs.{appended_text}
 use Rattle.saber_plan.specs.Inputs.{going_on}
 use Rattle.saber_plan.specs.Sizes.{limits_of}
@@ -21,8 +21,8 @@ use Rattle.saber_check.proofs.FaultLaws.{one_fault}
 use Rattle.saber_check.proofs.TextLaws.{fault_or_plan}
 use Rattle.saber_cli.specs.Outcomes.{IsQueryUnread}
 use Rattle.saber_cli.specs.Endings.{chained_as, file_on}
-use Rattle.saber_cli.specs.Due.{Contents, IsFaulty, contents_of, first_run, row_names}
-use Rattle.saber_cli.specs.Chained.{AsksChainRows, ChainsOver, HasReason, IsPlanned, chain_sizes, not_run, both_run}
+use Rattle.saber_cli.specs.Due.{Contents, IsFaulty, contents_of, first_run, row_names, IsPlanned}
+use Rattle.saber_cli.specs.Chained.{AsksChainRows, ChainsOver, HasReason, not_run, both_run}
 use Rattle.saber_cli.proofs.DueLemmas.{same_refusal}
 
 -- a file has one text
@@ -42,7 +42,7 @@ fault_is files name byte other cause another f h =
 told_fault : (files : Contents) (a : AskedChain) (o : Outcome) (byte : ℕ) (cause : Cause) → IsFaulty files a.first byte cause → HasReason files a o → (o ≡ QueryFault byte cause) ⊎ (IsQueryUnread o ⊎ (o ≡ NoMemory))
 told_fault files a Done byte cause f h = absurd h
 told_fault files a Usage byte cause f h = absurd h
-told_fault files a (FileCount streams given) byte cause f h = absurd (planned_or_fault files a.first h.first byte cause h.plans.first f)
+told_fault files a (FileCount streams given) byte cause f h = absurd (planned_or_fault files a.first h.0 byte cause h.2.first f)
 told_fault files a (QueryFault place why) byte cause f h = inl (fault_is files a.first place byte why cause h f)
 told_fault files a (SecondQueryFault place why) byte cause f h = absurd (planned_or_fault files a.first h.0 byte cause h.1 f)
 told_fault files a (Unchainable Query) byte cause f h = absurd (planned_or_fault files a.first h.0 byte cause h.2.first f)
@@ -69,7 +69,7 @@ first_fault_told files leaves a o tasks had has byte cause f (both_run r all e k
 
 -- what is told as done was run, and the text of both went out
 done_is_text : (files : Contents) (leaves : Tree → RunEnd → ℕ → Type 0) (a : AskedChain) (tasks : ℕ) (had has : SinkSeen) → ChainsOver files leaves a Done tasks had has
-    → (r : AsksChainRows files a) × (all : List (List ℕ)) × (contents_of files (row_names (first_run a)) ≡ Some all) × (has.written ≡ appended_text had.written (text_of_both r.first r.second (going_on (input_of r.first (limits_of (chain_sizes a)) all).rows)))
+    → (r : AsksChainRows files a) × (all : List (List ℕ)) × (contents_of files (row_names (first_run a)) ≡ Some all) × (has.written ≡ appended_text had.written (text_of_both r.first r.second (going_on (input_of r.first (limits_of a.sizes) all).rows)))
 done_is_text files leaves a tasks had has (not_run h t n) = absurd h
 done_is_text files leaves a tasks had has (both_run r all e k) = (r, all, e, k.whole tt)
 

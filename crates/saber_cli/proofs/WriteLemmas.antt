@@ -1,5 +1,5 @@
 -- How often a call writes.
-use Rattle.std.proofs.Common.{◌≡◌, ◌≢◌, ℕ, List, [], Option, Some, None, IfSome, sym, ◌∙◌, ap, subst, refl}
+use Rattle.std.proofs.Common.{◌≡◌, ◌≢◌, ℕ, List, Option, Some, None, IfSome, sym, ◌∙◌, ap, subst, refl}
 use Rattle.saber_io.specs.Outside.{FilesView}
 use Rattle.saber_plan.specs.declared.sizes.Sizes.{Sizes}
 use Rattle.saber_plan.specs.Sizes.{limits_of}
@@ -20,7 +20,7 @@ use Rattle.saber_notes.specs.declared.outcome.Outcome.TheVariants.{Done, Usage, 
 use Rattle.saber_dispatch.specs.declared.inputs.Inputs.{Inputs}
 use Rattle.saber_dispatch.specs.Sources.{each_input}
 use Rattle.saber_engine.specs.Sources.{told_by}
-use Rattle.saber_cli.specs.Due.{Contents, HasRun, contents_of, row_names, asked_limits}
+use Rattle.saber_cli.specs.Due.{Contents, HasRun, contents_of, row_names}
 use Rattle.saber_cli.specs.Endings.{end_of, ended_as}
 use Rattle.saber_cli.specs.RowFiles.{OpensAll}
 use Rattle.saber_cli.specs.Unread.{unread}
@@ -75,7 +75,7 @@ run_unwritten r told o had u =
     for_any (λ (t : FilesView). (q : Tree) → HasRun t.contents r q → IfSome (contents_of t.contents (row_names r)) (λ all. had ≡ raised_by had (run_writes r q all o 0))) told
     (λ t q h.
     for_any (λ (all : List (List ℕ)). had ≡ raised_by had (run_writes r q all o 0)) (contents_of t.contents (row_names r))
-    (λ all. writes_none q r.task (run_input q r.flush (input_of q (asked_limits r) all)) had o u))
+    (λ all. writes_none q r.sizes.task (run_input q r.sizes.flush (input_of q (limits_of r.sizes) all)) had o u))
 
 -- what is told of open sources holds of their files
 pub rows_writes : {S : Type 0} (left : S → Option (List ℕ)) (faults : S → ℕ) (q : Tree) (s : Sizes) (names : List (List ℕ)) (o : Outcome) (tasks had has : ℕ) (i : Inputs S) (told : Option FilesView)

@@ -1,6 +1,6 @@
 -- What a chain comes to: two queries, of which the second one's rows are the lines of the first.
-use Rattle.std.specs.Prelude.{Bool, ◌≡◌, ◌≢◌, ◌⊎◌, ℕ, List, [], ◌∷◌, ◌++◌, length, Option, Some, IfSome, true, false}
-use Rattle.saber_io.specs.Outside.{FilesView, Closed, content_in}
+use Rattle.std.specs.Prelude.{Bool, ◌≡◌, ◌≢◌, ◌⊎◌, ℕ, List, [], length, Option, Some, IfSome, true, false}
+use Rattle.saber_io.specs.Outside.{FilesView}
 use Rattle.saber_plan.specs.Outputs.{raised_by, appended_text}
 use Rattle.saber_plan.specs.declared.rows.Side.{Side}
 use Rattle.saber_plan.specs.declared.plans.Shape.TheVariants.{Join}
@@ -10,7 +10,6 @@ use Rattle.saber_plan.specs.Inputs.{going_on}
 use Rattle.saber_plan.specs.Trees.{Tree}
 use Rattle.saber_plan.specs.Windows.{has_windows}
 use Rattle.saber_plan.specs.Answers.{frame}
-use Rattle.saber_check.specs.Texts.{HasPlan}
 use Rattle.saber_words.specs.Chain.{AskedChain}
 use Rattle.saber_plan.specs.declared.ends.RunEnd.{RunEnd}
 use Rattle.saber_plan.specs.declared.ends.RunEnd.TheVariants as ends
@@ -24,17 +23,11 @@ use Rattle.saber_chain.specs.Marks.{IsWhole, IsShort}
 use Rattle.saber_notes.specs.declared.outcome.InputFile.TheVariants.{Query, Left, Right, SecondQuery}
 use Rattle.saber_notes.specs.declared.outcome.Outcome.{Outcome}
 use Rattle.saber_notes.specs.declared.outcome.Outcome.TheVariants.{Done, FileCount, QueryFault, SecondQueryFault, Unchainable, LineRefused, ChainLineRefused, OpenFault, ReadFault, NoMemory}
-use Rattle.saber_cli.specs.Due.{Contents, IsFaulty, IsLike, contents_of, first_run, row_names}
+use Rattle.saber_cli.specs.Due.{Contents, IsFaulty, IsLike, IsPlanned, contents_of, first_run, row_names}
 use Rattle.saber_cli.specs.Endings.{chained_as}
-use Rattle.saber_cli.specs.Taken.{TakesOf}
+use Rattle.saber_cli.specs.Taken.{TakesBehind}
 
 -- ---- the queries
-
--- the file with this name has a query with this plan
-pub record IsPlanned (files : Contents) (name : List ℕ) (q : Tree) : Type 0 where
-  pub text : List ℕ
-  pub there : content_in files name ≡ Some text
-  pub plan : HasPlan text q
 
 -- the files of both queries have these plans
 pub record HasPlans (files : Contents) (a : AskedChain) (p q : Tree) : Type 0 where
@@ -67,16 +60,6 @@ pub record AsksChainRows (files : Contents) (a : AskedChain) : Type 0 where
   pub chains : IsChainable first second
   pub like : IsLike (first_run a) first
 
--- both queries have plans that chain, but the first one has so many streams, and the command so many row files
-pub record CountsDiffer (files : Contents) (a : AskedChain) (streams given : ℕ) : Type 0 where
-  pub first : Tree
-  pub second : Tree
-  pub plans : HasPlans files a first second
-  pub chains : IsChainable first second
-  pub streams_are : length first.streams ≡ streams
-  pub files_are : length (row_names (first_run a)) ≡ given
-  pub differ : streams ≢ given
-
 -- ---- before a run
 
 -- Why nothing was run: the first of what is at fault, in this order. The text of the first query; that of the second one; what the first one's lines
@@ -87,7 +70,8 @@ HasReason files a (QueryFault byte cause) = IsFaulty files a.first byte cause
 HasReason files a (SecondQueryFault byte cause) = (p : Tree) × IsPlanned files a.first p × IsFaulty files a.second byte cause
 HasReason files a (Unchainable Query) = (p : Tree) × (q : Tree) × HasPlans files a p q × MayNotBeFirst p
 HasReason files a (Unchainable SecondQuery) = (p : Tree) × (q : Tree) × HasPlans files a p q × MayBeFirst p × (q.shape ≡ Join)
-HasReason files a (FileCount streams given) = CountsDiffer files a streams given
+HasReason files a (FileCount streams given) =
+    (p : Tree) × (q : Tree) × HasPlans files a p q × IsChainable p q × (length p.streams ≡ streams) × (length (row_names (first_run a)) ≡ given) × (streams ≢ given)
 HasReason files a (OpenFault Query) = Unit {0}
 HasReason files a (ReadFault Query) = Unit {0}
 HasReason files a (OpenFault SecondQuery) = (p : Tree) × IsPlanned files a.first p
@@ -130,29 +114,18 @@ pub record RunsChain (p q : Tree) (s : Sizes) (leaves : RunEnd → ℕ → Type 
   pub narrow : (task need : ℕ) → second ≢ ends.TooWide task need
   pub whole : IsAnswered o → IfSome files (λ fs. has.written ≡ appended_text had.written (text_of_both p q (going_on (input_of p (limits_of s) fs).rows)))
 
--- the sizes that are asked for
-abbrev pub chain_sizes : AskedChain → Sizes
-chain_sizes a = record { task = a.task; ring = a.ring; threads = a.threads; max_lines = a.most; slack = a.slack; flush = false }
-
 -- ---- the whole
 
 -- What a chain comes to over files that tell their contents: nothing was run, for a reason; or both queries were, over all row files.
 pub data ChainsOver (files : Contents) (leaves : Tree → RunEnd → ℕ → Type 0) (a : AskedChain) (o : Outcome) (tasks : ℕ) (had has : SinkSeen) : Type 0 where
   not_run : HasReason files a o → tasks ≡ 0 → has ≡ had → ChainsOver files leaves a o tasks had has
   both_run : (r : AsksChainRows files a) (all : List (List ℕ)) → contents_of files (row_names (first_run a)) ≡ Some all
-      → RunsChain r.first r.second (chain_sizes a) (leaves r.first) (Some all) had has o tasks → ChainsOver files leaves a o tasks had has
+      → RunsChain r.first r.second a.sizes (leaves r.first) (Some all) had has o tasks → ChainsOver files leaves a o tasks had has
 
--- The row files' sources were given back behind those of both queries, and of what was taken of them at least every whole task of the whole lines is assembled.
-pub record TakesChain (q : Tree) (a : AskedChain) (tasks : ℕ) (old new : FilesView) : Type 0 where
-  pub first_query : Closed
-  pub second_query : Closed
-  pub given_back : List Closed
-  pub closed : new.closed ≡ old.closed ++ first_query ∷ second_query ∷ given_back
-  pub takes : TakesOf q a.task (limits_of (chain_sizes a)) tasks old.contents (row_names (first_run a)) given_back
-
--- so it is of a first query that could not read its rows to the end
+-- a first query that could not read its rows to the end has at least every whole task assembled of what was taken of its row files, behind both queries' files
 abbrev pub CutTakesChain : AskedChain → FilesView → Option FilesView → Tree → RunEnd → ℕ → Type 0
-CutTakesChain a old new q end tasks = (side : Side) → end ≡ ends.ReadFault side → (u : FilesView) × (new ≡ Some u) × TakesChain q a tasks old u
+CutTakesChain a old new q end tasks =
+    (side : Side) → end ≡ ends.ReadFault side → (u : FilesView) × (new ≡ Some u) × TakesBehind 2 q a.sizes tasks (row_names (first_run a)) old u
 
 -- the whole where files tell, before and after the call
 abbrev pub AnswersChain : AskedChain → Outcome → ℕ → Option FilesView → Option FilesView → SinkSeen → SinkSeen → Type 0

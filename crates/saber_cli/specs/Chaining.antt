@@ -15,12 +15,11 @@ use Rattle.saber_notes.specs.declared.outcome.Outcome.{Outcome}
 use Rattle.saber_notes.specs.declared.outcome.Outcome.TheVariants.{QueryFault, SecondQueryFault, Unchainable, FileCount, OpenFault, ReadFault, NoMemory}
 use Rattle.saber_cli.specs.Outcomes.{IsUnopened}
 use Rattle.saber_cli.specs.Due.{Contents, IsFaulty, contents_of}
-use Rattle.saber_cli.specs.Leaves.{AreOf}
+use Rattle.saber_cli.specs.Leaves.{AreOf, Matches}
 use Rattle.saber_cli.specs.RowFiles.{after_use}
 use Rattle.saber_cli.specs.Uses.{IsOfQueryFile}
 use Rattle.saber_cli.specs.Taken.{TakesRows}
 use Rattle.saber_cli.specs.Chained.{MayBeFirst, MayNotBeFirst, IsChainable, RunsChain}
-use Rattle.saber_cli.specs.ChainLeaves.{MatchesChain}
 
 -- ---- a query
 
@@ -68,7 +67,7 @@ pub record UsesChainRows (names : List (List ℕ)) (o : Outcome) (old new : Opti
   pub given_back : List Closed
   pub told : new ≡ after_use old (take count names) given_back
   pub are_of : IfSome old (λ t. AreOf 0 t.contents given_back names)
-  pub matches : (one two : Closed) → one.1 ≡ 0 → two.1 ≡ 0 → MatchesChain (suc (suc (length names))) o (suc (suc count)) (one ∷ two ∷ given_back)
+  pub matches : (one two : Closed) → one.1 ≡ 0 → two.1 ≡ 0 → Matches 2 (suc (suc (length names))) o (suc (suc count)) (one ∷ two ∷ given_back)
 
 -- Both were run, and whether the second one's stage was stopped, by which the outcome goes, is what its own run tells.
 abbrev pub RunsChainSo : Tree → Tree → Sizes → (RunEnd → ℕ → Type 0) → Option (List (List ℕ)) → SinkSeen → SinkSeen → Outcome → ℕ → Option Bool → Type 0

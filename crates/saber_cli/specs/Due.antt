@@ -1,8 +1,8 @@
 -- What is due for some words and the contents of files, with no fault and memory enough.
-use Rattle.std.specs.Prelude.{Bool, ◌≡◌, ◌≢◌, ℕ, List, [], ◌∷◌, ◌++◌, length, Option, Some, None, option_map, option_and_then, option_to_list, false}
+use Rattle.std.specs.Prelude.{Bool, ◌≡◌, ◌≢◌, ℕ, List, [], ◌∷◌, ◌++◌, length, Option, Some, None, option_map, option_and_then, option_to_list}
 use Rattle.saber_plan.specs.Rows.{Read}
 use Rattle.saber_plan.specs.Trees.{Tree}
-use Rattle.saber_plan.specs.Sizes.{FileLimits}
+use Rattle.saber_plan.specs.Sizes.{limits_of}
 use Rattle.saber_io.specs.Outside.{content_in}
 use Rattle.saber_query.specs.declared.fault.Cause.{Cause}
 use Rattle.saber_query.specs.Parsed.{Parsed, IsParsed}
@@ -26,23 +26,9 @@ Contents = List (List ℕ × List ℕ)
 abbrev pub row_names : AskedRun → List (List ℕ)
 row_names r = r.left ∷ option_to_list r.right
 
--- what it asks of the lines of each of them
-abbrev pub asked_limits : AskedRun → FileLimits
-asked_limits r = record { most = r.most; slack = r.slack }
-
 -- the run of the first query of a chain, over its row files
 abbrev pub first_run : AskedChain → AskedRun
-first_run a = record {
-  query = a.first;
-  left = a.left;
-  right = a.right;
-  task = a.task;
-  ring = a.ring;
-  threads = a.threads;
-  most = a.most;
-  slack = a.slack;
-  flush = false;
-}
+first_run a = record { query = a.first; left = a.left; right = a.right; sizes = a.sizes }
 
 -- all files of a command, in that order
 abbrev pub names_of : Asked → List (List ℕ)
@@ -72,22 +58,19 @@ pub data Due : Type 0 where
   -- the plan is run over these rows, in tasks of so many, on a ring of so many cells, and whether their end closes the windows that are begun
   runs : Tree → ℕ → ℕ → Bool → Read → Due
 
--- the run's query has this text, and the text this plan
-pub record HasRun (files : Contents) (asked : AskedRun) (q : Tree) : Type 0 where
+-- the file with this name has a query with this plan
+pub record IsPlanned (files : Contents) (name : List ℕ) (q : Tree) : Type 0 where
   pub text : List ℕ
-  pub there : content_in files asked.query ≡ Some text
+  pub there : content_in files name ≡ Some text
   pub plan : HasPlan text q
+
+-- so has that of a run's query
+abbrev pub HasRun : Contents → AskedRun → Tree → Type 0
+HasRun files asked q = IsPlanned files asked.query q
 
 -- each stream of FROM has its row file
 abbrev pub IsLike : AskedRun → Tree → Type 0
 IsLike asked q = length q.streams ≡ length (row_names asked)
-
--- the row files are asked for: those of a run whose query has a plan, with a file for each of its streams. Of a chain see ChainLeaves.
-abbrev pub AsksRows : Contents → Asked → Type 0
-AsksRows files (run r) = (q : Tree) × HasRun files r q × IsLike r q
-AsksRows files (check c) = ⊥
-AsksRows files (demo d) = ⊥
-AsksRows files (chain a) = ⊥
 
 -- a file of a command isn't there: the query's, or one of the row files of a run
 pub data IsMissing (files : Contents) (query : List ℕ) (command : Asked) : Type 0 where
@@ -109,9 +92,9 @@ pub record Shows (text out : List ℕ) : Type 0 where
 
 -- the words ask for tasks of so many rows, such a ring, and whether the end closes windows
 pub record AsksFor (asked : AskedRun) (n ring : ℕ) (flush : Bool) : Type 0 where
-  pub task : n ≡ asked.task
-  pub cells : ring ≡ asked.ring
-  pub closes : flush ≡ asked.flush
+  pub task : n ≡ asked.sizes.task
+  pub cells : ring ≡ asked.sizes.ring
+  pub closes : flush ≡ asked.sizes.flush
 
 -- the run's query names so many streams, and the command another number of row files
 abbrev pub IsUnlike : Contents → AskedRun → ℕ → ℕ → Type 0
@@ -121,37 +104,15 @@ IsUnlike files r streams given = (q : Tree) × HasRun files r q × (length q.str
 abbrev pub IsDueFor : Contents → Asked → Due → Type 0
 IsDueFor files c usage = ⊥
 IsDueFor files (run r) missing = IsMissing files r.query (run r)
-IsDueFor files (check c) missing = IsMissing files c.query (check c)
-IsDueFor files (demo d) missing = ⊥
-IsDueFor files (chain a) missing = ⊥
 IsDueFor files (run r) (faulty byte cause) = IsFaulty files r.query byte cause
-IsDueFor files (check c) (faulty byte cause) = IsFaulty files c.query byte cause
-IsDueFor files (demo d) (faulty byte cause) = ⊥
-IsDueFor files (chain a) (faulty byte cause) = ⊥
 IsDueFor files (run r) (unlike streams given) = IsUnlike files r streams given
-IsDueFor files (check r) (unlike streams given) = ⊥
-IsDueFor files (demo d) (unlike streams given) = ⊥
-IsDueFor files (chain a) (unlike streams given) = ⊥
-IsDueFor files (run r) (shows out) = ⊥
-IsDueFor files (check r) (shows out) = (text : List ℕ) × (content_in files r.query ≡ Some text) × Shows text out
-IsDueFor files (demo d) (shows out) = ⊥
-IsDueFor files (chain a) (shows out) = ⊥
-IsDueFor files (run r) (tells out count) = ⊥
-IsDueFor files (check r) (tells out count) = ⊥
-IsDueFor files (demo d) (tells out count) = (out ≡ summary_of_run d.seed d.rows) × (count ≡ tasks_of_run d)
-IsDueFor files (chain a) (tells out count) = ⊥
 IsDueFor files (run r) (runs q n ring flush read) = (all : List (List ℕ)) × HasRun files r q × IsLike r q ×
-    (contents_of files (row_names r) ≡ Some all) × AsksFor r n ring flush × (read ≡ input_of q (asked_limits r) all)
-IsDueFor files (check r) (runs q n ring flush read) = ⊥
-IsDueFor files (demo d) (runs q n ring flush read) = ⊥
-IsDueFor files (chain a) (runs q n ring flush read) = ⊥
-
--- the command is no chain
-abbrev pub IsPlain : Asked → Type 0
-IsPlain (run r) = Unit {0}
-IsPlain (check c) = Unit {0}
-IsPlain (demo d) = Unit {0}
-IsPlain (chain a) = ⊥
+    (contents_of files (row_names r) ≡ Some all) × AsksFor r n ring flush × (read ≡ input_of q (limits_of r.sizes) all)
+IsDueFor files (check c) missing = IsMissing files c.query (check c)
+IsDueFor files (check c) (faulty byte cause) = IsFaulty files c.query byte cause
+IsDueFor files (check c) (shows out) = (text : List ℕ) × (content_in files c.query ≡ Some text) × Shows text out
+IsDueFor files (demo d) (tells out count) = (out ≡ summary_of_run d.seed d.rows) × (count ≡ tasks_of_run d)
+IsDueFor files c d = ⊥
 
 -- the words are no chain
 abbrev pub AreNoChain : List (List ℕ) → Type 0
@@ -164,6 +125,10 @@ pub data IsDue (ws : List (List ℕ)) (files : Contents) (d : Due) : Type 0 wher
 
 -- ---- facts of the command that some words are
 
+-- whichever it is
+abbrev pub IfCommand : List (List ℕ) → (Asked → Type 0) → Type 0
+IfCommand ws P = (c : Asked) → command_of ws ≡ Some c → P c
+
 -- if they are a run
 abbrev pub IfRun : List (List ℕ) → (AskedRun → Type 0) → Type 0
 IfRun ws P = (r : AskedRun) → command_of ws ≡ Some (run r) → P r
@@ -175,7 +140,3 @@ IfDemo ws P = (d : AskedDemo) → command_of ws ≡ Some (demo d) → P d
 -- if they are a chain
 abbrev pub IfChain : List (List ℕ) → (AskedChain → Type 0) → Type 0
 IfChain ws P = (a : AskedChain) → command_of ws ≡ Some (chain a) → P a
-
--- if they are a command that is no chain
-abbrev pub IfPlain : List (List ℕ) → (Asked → Type 0) → Type 0
-IfPlain ws P = (c : Asked) → command_of ws ≡ Some c → IsPlain c → P c

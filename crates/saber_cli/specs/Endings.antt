@@ -43,9 +43,7 @@ chained_as ring first ends.WriteFault stopped = WriteFault
 chained_as ring first ends.NoMemory true = NoMemory
 chained_as ring first ends.NoMemory false = unless_cut ring first NoMemory
 chained_as ring first (ends.Bad side line cause) stopped = unless_cut ring first (ChainLineRefused line cause)
-chained_as ring first ends.AllRead stopped = ended_as ring first
-chained_as ring first (ends.ReadFault side) stopped = ended_as ring first
-chained_as ring first (ends.TooWide task need) stopped = ended_as ring first
+chained_as ring first _ stopped = ended_as ring first
 
 -- a fault of reading is told of a side only where that side's count of faults rose
 abbrev pub ReadFaultsRose : Outcome → List ℕ → List ℕ → Type 0

@@ -17,5 +17,6 @@ pub mod Unread
 pub mod Demo
 pub mod Tells
 pub mod Chained
-pub mod ChainLeaves
 pub mod Chaining
+pub mod Leaving
+pub mod Says

@@ -17,16 +17,11 @@ IsQueryUnread _ = ⊥
 
 -- an answer of the words, the queries, the rows and the ring alone: nothing failed, and memory was enough
 abbrev pub IsClean : Outcome → Type 0
-IsClean Done = Unit {0}
-IsClean Usage = Unit {0}
-IsClean (FileCount streams given) = Unit {0}
-IsClean (QueryFault byte cause) = Unit {0}
-IsClean (SecondQueryFault byte cause) = Unit {0}
-IsClean (Unchainable file) = Unit {0}
-IsClean (LineRefused side line cause) = Unit {0}
-IsClean (ChainLineRefused line cause) = Unit {0}
-IsClean (TooWide task need ring) = Unit {0}
-IsClean _ = ⊥
+IsClean (OpenFault file) = ⊥
+IsClean (ReadFault file) = ⊥
+IsClean WriteFault = ⊥
+IsClean NoMemory = ⊥
+IsClean _ = Unit {0}
 
 abbrev pub IsQueryFault : Outcome → Type 0
 IsQueryFault (QueryFault byte cause) = Unit {0}

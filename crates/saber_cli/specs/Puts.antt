@@ -1,8 +1,8 @@
 -- What goes out.
-use Rattle.std.specs.Prelude.{◌≡◌, ◌≤◌, ◌⊎◌, ℕ, List, [], take}
+use Rattle.std.specs.Prelude.{◌≡◌, ◌⊎◌, ℕ, List, [], take}
 use Rattle.saber_notes.specs.declared.outcome.Outcome.{Outcome}
 use Rattle.saber_notes.specs.declared.outcome.Outcome.TheVariants.{Done, WriteFault, NoMemory}
-use Rattle.saber_cli.specs.Due.{Due, usage, missing, faulty, unlike, shows, tells, runs}
+use Rattle.saber_cli.specs.Due.{Due, shows, tells, runs}
 use Rattle.saber_cli.specs.Endings.{end_of}
 use Rattle.saber_plan.specs.Runs.{Assembles, reach_of}
 use Rattle.saber_plan.specs.Tasks.{run_input}
@@ -20,17 +20,14 @@ IsOfPut WriteFault = Unit {0}
 IsOfPut NoMemory = Unit {0}
 IsOfPut _ = ⊥
 
--- how many of the tasks of a run over generated rows are assembled: all, but for want of memory
+-- how many of the tasks of a run over generated rows are assembled for what goes out: all, or none where memory lacks and so nothing goes out
 pub record HasTasks (count tasks : ℕ) (o : Outcome) : Type 0 where
-  pub few : tasks ≤ count
   pub all : (o ≡ Done) ⊎ (o ≡ WriteFault) → tasks ≡ count
+  pub none : o ≡ NoMemory → tasks ≡ 0
 
 -- what goes out where this is due, and how many tasks are assembled: no tasks but in a run
 abbrev pub PutsOut : Due → Outcome → ℕ → List ℕ → Type 0
-PutsOut usage o tasks out = (tasks ≡ 0) × (out ≡ [])
-PutsOut missing o tasks out = (tasks ≡ 0) × (out ≡ [])
-PutsOut (faulty byte cause) o tasks out = (tasks ≡ 0) × (out ≡ [])
-PutsOut (tells text count) o tasks out = HasTasks count tasks o × PutsText text o out
-PutsOut (unlike streams given) o tasks out = (tasks ≡ 0) × (out ≡ [])
-PutsOut (shows text) o tasks out = (tasks ≡ 0) × PutsText text o out
 PutsOut (runs q n ring flush read) o tasks out = Assembles q n (run_input q flush read) (reach_of (end_of o)) tasks out
+PutsOut (tells text count) o tasks out = HasTasks count tasks o × PutsText text o out
+PutsOut (shows text) o tasks out = (tasks ≡ 0) × PutsText text o out
+PutsOut _ o tasks out = (tasks ≡ 0) × (out ≡ [])

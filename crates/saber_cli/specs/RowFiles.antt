@@ -42,4 +42,4 @@ pub record UsesRows (names : List (List ℕ)) (o : Outcome) (old new : Option Fi
   pub given_back : List Closed
   pub told : new ≡ after_use old (take count names) given_back
   pub are_of : IfSome old (λ t. AreOf 0 t.contents given_back names)
-  pub matches : (query : Closed) → query.1 ≡ 0 → Matches (suc (length names)) o (suc count) (query ∷ given_back)
+  pub matches : (query : Closed) → query.1 ≡ 0 → Matches 1 (suc (length names)) o (suc count) (query ∷ given_back)

@@ -1,5 +1,5 @@
 -- What a run that could not read its row files to the end has assembled of them.
-use Rattle.std.specs.Prelude.{◌≡◌, ℕ, List, ◌∷◌, ◌++◌, map, Option, Some, IfSome}
+use Rattle.std.specs.Prelude.{◌≡◌, ℕ, List, ◌++◌, length, map, Option, Some, IfSome}
 use Rattle.saber_io.specs.Outside.{FilesView, Closed, content_in}
 use Rattle.saber_plan.specs.declared.rows.Side.{Side}
 use Rattle.saber_plan.specs.Trees.{Tree}
@@ -10,7 +10,7 @@ use Rattle.saber_words.specs.Commands.{AskedRun}
 use Rattle.saber_notes.specs.declared.outcome.Outcome.{Outcome}
 use Rattle.saber_notes.specs.declared.outcome.Outcome.TheVariants.{ReadFault}
 use Rattle.saber_cli.specs.Endings.{file_on}
-use Rattle.saber_cli.specs.Due.{Contents, HasRun, row_names, asked_limits}
+use Rattle.saber_cli.specs.Due.{Contents, HasRun, row_names}
 use Rattle.saber_cli.specs.RowFiles.{after_use}
 
 -- of the files with these names, and the sources that were given back of them: at least every whole task of the whole lines that were taken
@@ -32,14 +32,17 @@ CutLeavesWhole q s o tasks had has = (side : Side) → o ≡ ReadFault (file_on 
 abbrev pub CutTakesRows : Tree → Sizes → Outcome → ℕ → List (List ℕ) → Option FilesView → Option FilesView → Type 0
 CutTakesRows q s o tasks names old new = (side : Side) → o ≡ ReadFault (file_on side) → TakesRows q s.task (limits_of s) tasks names old new
 
--- the row files' sources were given back behind the query's, and so much is assembled of them
-pub record TakesWhole (r : AskedRun) (tasks : ℕ) (old new : FilesView) : Type 0 where
-  pub plan : Tree
-  pub has_run : HasRun old.contents r plan
-  pub query : Closed
+-- The row files' sources were given back behind those of so many queries, and at least every whole task of the whole lines that were taken of them is assembled.
+pub record TakesBehind (queries : ℕ) (q : Tree) (s : Sizes) (tasks : ℕ) (names : List (List ℕ)) (old new : FilesView) : Type 0 where
+  pub before : List Closed
+  pub as_many : length before ≡ queries
   pub given_back : List Closed
-  pub closed : new.closed ≡ old.closed ++ query ∷ given_back
-  pub takes : TakesOf plan r.task (asked_limits r) tasks old.contents (row_names r) given_back
+  pub closed : new.closed ≡ old.closed ++ before ++ given_back
+  pub takes : TakesOf q s.task (limits_of s) tasks old.contents names given_back
+
+-- so it is of the row files of a run
+abbrev pub TakesWhole : AskedRun → ℕ → FilesView → FilesView → Type 0
+TakesWhole r tasks old new = (q : Tree) × HasRun old.contents r q × TakesBehind 1 q r.sizes tasks (row_names r) old new
 
 -- the same where files tell, of a call that ends by a fault of reading a row file
 abbrev pub TakesTold : AskedRun → Outcome → ℕ → Option FilesView → Option FilesView → Type 0

@@ -5,15 +5,15 @@ ghost use Rattle.saber_plan.specs.Trees.{tree_of};
 ghost use Rattle.saber_plan.specs.Checked.{IsChecked};
 ghost use Rattle.saber_plan.specs.Sizes.{SizesFit};
 ghost use Rattle.saber_words.specs.declared.commands.Command.{Command};
-ghost use Rattle.saber_words.specs.Commands.{asked_command, asked_run, IsSized};
+ghost use Rattle.saber_words.specs.Commands.{asked_command, asked_run, chain, IsSized};
 ghost use Rattle.saber_words.specs.Chain.{asked_chain};
 ghost use Rattle.saber_notes.specs.declared.outcome.Outcome.{Outcome};
 ghost use Rattle.saber_chain.specs.Sinks.{seen_of};
 ghost use Rattle.saber_cli.specs.Outcomes.{IsClean, IsFileFault, IsBeforeRun, IsOfChain};
 ghost use Rattle.saber_cli.specs.Due.{first_run, row_names};
 ghost use Rattle.saber_cli.specs.Uses.{KeepsFaults};
-ghost use Rattle.saber_cli.specs.Chained.{AnswersChain, chain_sizes};
-ghost use Rattle.saber_cli.specs.ChainLeaves.{LeavesChain};
+ghost use Rattle.saber_cli.specs.Chained.{AnswersChain};
+ghost use Rattle.saber_cli.specs.Leaving.{LeavesTold};
 ghost use Rattle.saber_cli.specs.Chaining.{ChainedTold, UsesChainRows};
 
 use crate::answer::Ran;
@@ -47,7 +47,7 @@ fn first_run<'a>(command: &Chain<'a>) -> Run<'a>
 // The sizes that a command asks for, of each of its queries.
 fn chain_sizes(command: &Chain<'_>) -> Sizes
     requires { IsSized (asked_command (Command.Chain command.now)) }
-    ensures sizes { result ≡ chain_sizes (asked_chain command.now) }
+    ensures sizes { result ≡ (asked_chain command.now).sizes }
     ensures fit { SizesFit result }
 {
     Sizes {
@@ -132,7 +132,7 @@ where
     ensures chained { AnswersChain (asked_chain command.now) result.outcome result.tasks (F.told files.old) (F.told files.new) (seen_of K.written K.writes sink) (seen_of K.written K.writes result.sink) }
     ensures early { IsBeforeRun result.outcome → (result.tasks ≡ 0) × (result.sink ≡ sink) }
     ensures kinds { result.outcome ≢ Outcome.Usage }
-    ensures leaves { LeavesChain (asked_chain command.now) result.outcome (F.told files.old) (F.told files.new) }
+    ensures leaves { LeavesTold (chain (asked_chain command.now)) result.outcome (F.told files.old) (F.told files.new) }
     ensures cause { IsFileFault result.outcome → Rose (F.faults files.old) (F.faults files.new) }
     ensures read_good { IsClean result.outcome → F.faults files.new ≡ F.faults files.old }
     ensures write { result.outcome ≡ Outcome.WriteFault → Rose (K.faults sink) (K.faults result.sink) }

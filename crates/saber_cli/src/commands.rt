@@ -7,7 +7,7 @@ ghost use Rattle.saber_notes.specs.declared.outcome.Outcome.{Outcome};
 ghost use Rattle.saber_cli.specs.Outcomes.{IsClean, IsFileFault, IsBeforeRun, IsOfSecond};
 ghost use Rattle.saber_cli.specs.Due.{row_names};
 ghost use Rattle.saber_cli.specs.Gives.{Gives};
-ghost use Rattle.saber_cli.specs.Leaves.{LeavesTold};
+ghost use Rattle.saber_cli.specs.Leaving.{LeavesTold};
 ghost use Rattle.saber_cli.specs.Taken.{TakesTold};
 ghost use Rattle.saber_cli.specs.Writes.{WritesTold};
 

@@ -1,5 +1,5 @@
 // The command `demo`: a run over generated rows, and the summary of its answer.
-ghost use Rattle.std.specs.Prelude.{◌≡◌, ◌≢◌, ◌≤◌, ◌^◌, ◌↔◌, false, IsTrue};
+ghost use Rattle.std.specs.Prelude.{◌≡◌, ◌≢◌, ◌^◌, ◌↔◌, false, IsTrue};
 ghost use Rattle.saber_plan.specs.Outputs.{raised_by, raised_count, Rose};
 ghost use Rattle.saber_plan.specs.Sizes.{SizesFit};
 ghost use Rattle.saber_words.specs.declared.commands.Command.{Command};
@@ -7,7 +7,6 @@ ghost use Rattle.saber_words.specs.Commands.{asked_command, IsSized};
 ghost use Rattle.saber_words.specs.Demo.{asked_demo};
 ghost use Rattle.saber_plan.specs.declared.ends.RunEnd.{RunEnd};
 ghost use Rattle.saber_notes.specs.declared.outcome.Outcome.{Outcome};
-ghost use Rattle.saber_cli.specs.Demo.{tasks_of_run};
 ghost use Rattle.saber_cli.specs.Tells.{IsAnswer, IsWholeOrLacks, TellsRun};
 ghost use Rattle.saber_cli.specs.Writes.{text_writes};
 
@@ -78,7 +77,6 @@ fn run_generated<G: Gate + Sync, R: Threads + Wait + Sync>(
 ) -> Answer
     requires { IsSized (asked_command (Command.Demo command.now)) }
     ensures answer { IsTrue result.whole → IsAnswer (asked_demo command.now) result.text.written result.tasks }
-    ensures few { result.tasks ≤ tasks_of_run (asked_demo command.now) }
 {
     let text = TextSink::new(alloc);
     let Ok(plan) = demo_plan(alloc) else {
@@ -104,23 +102,20 @@ fn run_generated<G: Gate + Sync, R: Threads + Wait + Sync>(
     }
 }
 
-// Ends for want of memory behind a run that assembled so many tasks.
-fn lacking<K>(sink: K, tasks: u64) -> Ran<K>
-    ensures { result ≡ record { outcome = Outcome.NoMemory; sink = sink; tasks = tasks } }
+// Ends for want of memory: nothing goes out, so no task counts.
+fn lacking<K>(sink: K) -> Ran<K>
+    ensures { result ≡ record { outcome = Outcome.NoMemory; sink = sink; tasks = 0 } }
 {
     Ran {
         outcome: Outcome::NoMemory,
         sink,
-        tasks,
+        tasks: 0,
     }
 }
 
-// Writes the summary of an answer that is whole. The tasks that it tells are those of the run, also
-// where memory lacks.
+// Writes the summary of an answer that is whole.
 fn tell<K: Sink>(alloc: Global, command: &Demo, answer: Answer, sink: K) -> Ran<K>
     requires answer { IsTrue answer.whole → IsAnswer (asked_demo command.now) answer.text.written answer.tasks }
-    requires few { answer.tasks ≤ tasks_of_run (asked_demo command.now) }
-    ensures tasks { result.tasks ≡ answer.tasks }
     ensures told { TellsRun (asked_demo command.now) result.outcome result.tasks (K.written sink) (K.written result.sink) }
     ensures write { result.outcome ≡ Outcome.WriteFault → Rose (K.faults sink) (K.faults result.sink) }
     ensures write_good { result.outcome ≢ Outcome.WriteFault → K.faults result.sink ≡ K.faults sink }
@@ -134,11 +129,11 @@ fn tell<K: Sink>(alloc: Global, command: &Demo, answer: Answer, sink: K) -> Ran<
         whole,
     } = answer;
     if !whole {
-        return lacking(sink, tasks);
+        return lacking(sink);
     }
     match summary(alloc, u64::from(command.rows), answered.text()) {
         Ok(out) => put(&out, sink, tasks),
-        Err(_) => lacking(sink, tasks),
+        Err(_) => lacking(sink),
     }
 }
 

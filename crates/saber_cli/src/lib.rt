@@ -1,7 +1,7 @@
 //! The call `saber`, from words and files to bytes, a status and a note. The program is over it by
-//! way of `top` of `saber_top`, which has one command more. `top.rt` holds the theorem, one clause
-//! a fact; docs/RULES.md ("What is promised of a call") has it in words, docs/RUN.md what it rests
-//! on.
+//! way of `top` of `saber_top`, which has one command more. `specs/Says.antt` holds the theorem, one
+//! field a fact; docs/RULES.md ("What is promised of a call") has it in words, docs/RUN.md what it
+//! rests on.
 //!
 //! - Parts, from the top: `top`, `words` (words to command), `commands` (a run, a check), `queries`
 //!   and `texts` (the query file), `shows` (the text of a checked query), `plans`, `sizes`, `runs`
@@ -13,9 +13,9 @@
 //!   with several queries has too: `query_plan`, `open_row`, `close_rows`, `outcome_of`, and the
 //!   lemma `runs_tell` (`proofs/AloneLemmas.antt`): what its run of one query gives is what the
 //!   command `run` gives.
-//! - Proved: what goes out, which files are asked for and given back, which status and note comes,
-//!   and that each has its cause. Of `specs/` open `Outcomes`, `Due`, `Answered`, `Chained` and
-//!   `Leaves` first.
+//! - Proved: what goes out, and by how many writes, which files are asked for and given back, which
+//!   status and note comes, and that each has its cause. Of `specs/` open `Says` first, then
+//!   `Outcomes`, `Due`, `Answered`, `Chained`, `Leaves`, `Leaving` and `Writes`.
 //! - Not claimed: a cause for want of memory, progress of threads, and what files and sinks hold
 //!   that don't tell. What contracts leave open is tested by cases (docs/CASES.md).
 //! - Limits: a query file is read up to 65,537 bytes; options have the ranges of `saber_words`.

@@ -8,10 +8,11 @@ ghost use Rattle.saber_plan.specs.Answers.{frame};
 ghost use Rattle.saber_words.specs.Chain.{asked_chain};
 ghost use Rattle.saber_notes.specs.declared.outcome.InputFile.{InputFile};
 ghost use Rattle.saber_cli.specs.Outcomes.{IsClean, IsFileFault, IsOfPlan, IsOfPlans};
-ghost use Rattle.saber_cli.specs.Due.{IsLike, first_run, row_names};
+ghost use Rattle.saber_cli.specs.Due.{IsLike, first_run, row_names, IsPlanned};
 ghost use Rattle.saber_cli.specs.Uses.{Uses, KeepsFaults, outcome_of};
-ghost use Rattle.saber_cli.specs.Chained.{HasPlansTold, HasReason, IsChainable, IsPlanned, MayBeFirst, MayNotBeFirst};
-ghost use Rattle.saber_cli.specs.ChainLeaves.{LeavesChain};
+ghost use Rattle.saber_cli.specs.Chained.{HasPlansTold, HasReason, IsChainable, MayBeFirst, MayNotBeFirst};
+ghost use Rattle.saber_words.specs.Commands.{chain};
+ghost use Rattle.saber_cli.specs.Leaving.{LeavesTold};
 ghost use Rattle.saber_cli.specs.Chaining.{BothRead, IsMisfit, LacksPlan, as_second};
 
 use crate::plans::planned;
@@ -136,7 +137,7 @@ pub(crate) fn chain_plans<F: Files>(
     ensures reason { IfErr result (λ o. IfSome (F.told files.old) (λ t. HasReason t.contents (asked_chain command.now) o)) }
     ensures kinds { IfErr result IsOfPlans }
     ensures read { IfOk result (λ plans. BothRead (asked_chain command.now).first (asked_chain command.now).second (F.told files.old) (F.told files.new)) }
-    ensures leaves { IfErr result (λ o. LeavesChain (asked_chain command.now) o (F.told files.old) (F.told files.new)) }
+    ensures leaves { IfErr result (λ o. LeavesTold (chain (asked_chain command.now)) o (F.told files.old) (F.told files.new)) }
     ensures cause { IfErr result (λ o. IsFileFault o → Rose (F.faults files.old) (F.faults files.new)) }
     ensures read_good { IsClean (outcome_of result) → F.faults files.new ≡ F.faults files.old }
     ensures count { KeepsFaults (F.faults files.old) (F.faults files.new) }

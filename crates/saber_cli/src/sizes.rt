@@ -3,7 +3,6 @@ ghost use Rattle.std.specs.Prelude.{◌≡◌};
 ghost use Rattle.saber_plan.specs.Sizes.{SizesFit, limits_of};
 ghost use Rattle.saber_words.specs.declared.commands.Command.{Command};
 ghost use Rattle.saber_words.specs.Commands.{asked_command, asked_run, IsSized};
-ghost use Rattle.saber_cli.specs.Due.{asked_limits};
 
 use saber_plan::Sizes;
 use saber_words::Run;
@@ -13,7 +12,7 @@ pub(crate) fn sizes_of(run: &Run<'_>) -> Sizes
     requires { IsSized (asked_command (Command.Run run.now)) }
     ensures task { result.task ≡ run.now.task }
     ensures ring { result.ring ≡ run.now.ring }
-    ensures limits { limits_of result ≡ asked_limits (asked_run run.now) }
+    ensures limits { limits_of result ≡ limits_of (asked_run run.now).sizes }
     ensures flush { result.flush ≡ run.now.flush }
     ensures threads { result.threads ≡ run.now.threads }
     ensures fit { SizesFit result }

@@ -6,11 +6,10 @@ ghost use Rattle.saber_words.specs.Chain.{AskedChain};
 ghost use Rattle.saber_notes.specs.declared.outcome.Outcome.{Outcome};
 ghost use Rattle.saber_chain.specs.Sinks.{seen_of};
 ghost use Rattle.saber_cli.specs.Outcomes.{IsClean, IsFileFault, IsBeforeRun, IsOfSecond};
-ghost use Rattle.saber_cli.specs.Due.{IfRun, IfDemo, IfChain, IfPlain};
+ghost use Rattle.saber_cli.specs.Due.{IfCommand, IfRun, IfDemo, IfChain};
 ghost use Rattle.saber_cli.specs.Gives.{AnswersTold};
 ghost use Rattle.saber_cli.specs.Chained.{AnswersChain};
-ghost use Rattle.saber_cli.specs.ChainLeaves.{LeavesChain};
-ghost use Rattle.saber_cli.specs.Leaves.{LeavesTold};
+ghost use Rattle.saber_cli.specs.Leaving.{LeavesTold};
 ghost use Rattle.saber_cli.specs.Taken.{TakesTold};
 ghost use Rattle.saber_cli.specs.Tells.{TellsRun};
 ghost use Rattle.saber_cli.specs.Unread.{unread, EndsUnread};
@@ -56,10 +55,9 @@ where
     ensures told { IfDemo (map (λ word. word.now) words.now) (λ d. TellsRun d result.outcome result.tasks (K.written sink) (K.written result.sink)) }
     ensures unread { command_of (map (λ word. word.now) words.now) ≡ None → EndsUnread result.outcome result.tasks files.old files.new sink result.sink }
     ensures usage { result.outcome ≡ Outcome.Usage → command_of (map (λ word. word.now) words.now) ≡ None }
-    ensures writes { IfPlain (map (λ word. word.now) words.now) (λ c. WritesTold c (F.told files.old) result.outcome result.tasks (K.writes sink) (K.writes result.sink)) }
+    ensures writes { IfCommand (map (λ word. word.now) words.now) (λ c. WritesTold c (F.told files.old) result.outcome result.tasks (K.writes sink) (K.writes result.sink)) }
     ensures early { IsBeforeRun result.outcome → (result.tasks ≡ 0) × (result.sink ≡ sink) }
-    ensures leaves { IfPlain (map (λ word. word.now) words.now) (λ c. LeavesTold c result.outcome (F.told files.old) (F.told files.new)) }
-    ensures leaves_chain { IfChain (map (λ word. word.now) words.now) (λ a. LeavesChain a result.outcome (F.told files.old) (F.told files.new)) }
+    ensures leaves { IfCommand (map (λ word. word.now) words.now) (λ c. LeavesTold c result.outcome (F.told files.old) (F.told files.new)) }
     ensures taken { IfRun (map (λ word. word.now) words.now) (λ r. TakesTold r result.outcome result.tasks (F.told files.old) (F.told files.new)) }
     ensures cause { IsFileFault result.outcome → Rose (F.faults files.old) (F.faults files.new) }
     ensures read_good { IsClean result.outcome → F.faults files.new ≡ F.faults files.old }

@@ -2,3 +2,4 @@ pub mod Notes
 pub mod Lines
 pub mod ManyNotes
 pub mod Reports
+pub mod Told

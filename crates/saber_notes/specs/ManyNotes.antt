@@ -36,24 +36,20 @@ first_status (o ∷ os) = status_of o
 
 -- ---- before a run
 
--- the status of a call that ends before any query is run
-abbrev pub early_status : Early → ℕ
-early_status Usage = 2
-early_status (QueryUnopened j) = 5
-early_status (QueryUnread j) = 5
-early_status (QueryFault j byte cause) = 3
-early_status (Unshareable j) = 3
-early_status LeftUnopened = 5
-early_status (CreateFault j) = 6
-early_status NoMemory = 8
+-- The status and the note of a call that ends before any query is run. Of a query: behind its number, what the note of a run of this query alone says; of the
+-- words, the left file and memory: that note itself.
+abbrev pub early_told : Early → ℕ × List ℕ
+early_told Usage = (2, note_of ends.Usage)
+early_told (QueryUnopened j) = (5, query_line j (ends.OpenFault Query))
+early_told (QueryUnread j) = (5, query_line j (ends.ReadFault Query))
+early_told (QueryFault j byte cause) = (3, query_line j (ends.QueryFault byte cause))
+early_told (Unshareable j) = (3, query_line j (ends.QueryFault 0 Shape))
+early_told LeftUnopened = (5, note_of (ends.OpenFault Left))
+early_told (CreateFault j) = (6, line_on j (codes "create fault"))
+early_told NoMemory = (8, note_of ends.NoMemory)
 
--- Its note. Of a query: behind its number, what the note of a run of this query alone says; of the words, the left file and memory: that note itself.
+abbrev pub early_status : Early → ℕ
+early_status early = (early_told early).0
+
 abbrev pub early_note : Early → List ℕ
-early_note Usage = note_of ends.Usage
-early_note (QueryUnopened j) = query_line j (ends.OpenFault Query)
-early_note (QueryUnread j) = query_line j (ends.ReadFault Query)
-early_note (QueryFault j byte cause) = query_line j (ends.QueryFault byte cause)
-early_note (Unshareable j) = query_line j (ends.QueryFault 0 Shape)
-early_note LeftUnopened = note_of (ends.OpenFault Left)
-early_note (CreateFault j) = line_on j (codes "create fault")
-early_note NoMemory = note_of ends.NoMemory
+early_note early = (early_told early).1

@@ -11,22 +11,6 @@ use Rattle.saber_notes.specs.declared.outcome.InputFile.TheVariants as files
 use Rattle.saber_notes.specs.declared.outcome.Outcome.{Outcome}
 use Rattle.saber_notes.specs.declared.outcome.Outcome.TheVariants.{Done, Usage, FileCount, QueryFault, SecondQueryFault, Unchainable, LineRefused, ChainLineRefused, OpenFault, ReadFault, WriteFault, TooWide, NoMemory}
 
--- the status that the process ends with
-abbrev pub status_of : Outcome → ℕ
-status_of Done = 0
-status_of Usage = 2
-status_of (FileCount streams given) = 2
-status_of (QueryFault byte cause) = 3
-status_of (SecondQueryFault byte cause) = 3
-status_of (Unchainable file) = 3
-status_of (LineRefused side line cause) = 4
-status_of (ChainLineRefused line cause) = 4
-status_of (OpenFault file) = 5
-status_of (ReadFault file) = 5
-status_of WriteFault = 6
-status_of (TooWide task need ring) = 7
-status_of NoMemory = 8
-
 -- why a query is refused
 abbrev pub query_text : Cause → List ℕ
 query_text query.TooLong = codes "too long"
@@ -66,21 +50,27 @@ file_text files.Left = codes "left"
 file_text files.Right = codes "right"
 file_text files.SecondQuery = codes "second query"
 
--- what a note says; a call that is done has none
+-- the status that the process ends with, and what the note says; a call that is done has no note
+abbrev pub told_of : Outcome → ℕ × List ℕ
+told_of Done = (0, [])
+told_of Usage = (2, codes "usage: saber run QUERY LEFT [RIGHT] | check QUERY | demo SEED ROWS")
+told_of (FileCount streams given) = (2, codes "streams " ++ decimal streams ++ codes ", files " ++ decimal given)
+told_of (QueryFault byte cause) = (3, codes "query byte " ++ decimal byte ++ codes ": " ++ query_text cause)
+told_of (SecondQueryFault byte cause) = (3, codes "second query byte " ++ decimal byte ++ codes ": " ++ query_text cause)
+told_of (Unchainable file) = (3, file_text file ++ codes " byte 0: shape")
+told_of (LineRefused side line cause) = (4, side_text side ++ codes " line " ++ decimal line ++ codes ": " ++ line_text cause)
+told_of (ChainLineRefused line cause) = (4, codes "chain line " ++ decimal line ++ codes ": " ++ line_text cause)
+told_of (OpenFault file) = (5, file_text file ++ codes ": open fault")
+told_of (ReadFault file) = (5, file_text file ++ codes ": read fault")
+told_of WriteFault = (6, codes "write fault")
+told_of (TooWide task need ring) = (7, (codes "task " ++ decimal task) ++ (codes " needs " ++ decimal need) ++ (codes " blocks, ring has " ++ decimal ring))
+told_of NoMemory = (8, codes "out of memory")
+
+abbrev pub status_of : Outcome → ℕ
+status_of outcome = (told_of outcome).0
+
 abbrev pub note_text : Outcome → List ℕ
-note_text Done = []
-note_text Usage = codes "usage: saber run QUERY LEFT [RIGHT] | check QUERY | demo SEED ROWS"
-note_text (FileCount streams given) = codes "streams " ++ decimal streams ++ codes ", files " ++ decimal given
-note_text (QueryFault byte cause) = codes "query byte " ++ decimal byte ++ codes ": " ++ query_text cause
-note_text (SecondQueryFault byte cause) = codes "second query byte " ++ decimal byte ++ codes ": " ++ query_text cause
-note_text (Unchainable file) = file_text file ++ codes " byte 0: shape"
-note_text (LineRefused side line cause) = side_text side ++ codes " line " ++ decimal line ++ codes ": " ++ line_text cause
-note_text (ChainLineRefused line cause) = codes "chain line " ++ decimal line ++ codes ": " ++ line_text cause
-note_text (OpenFault file) = file_text file ++ codes ": open fault"
-note_text (ReadFault file) = file_text file ++ codes ": read fault"
-note_text WriteFault = codes "write fault"
-note_text (TooWide task need ring) = (codes "task " ++ decimal task) ++ (codes " needs " ++ decimal need) ++ (codes " blocks, ring has " ++ decimal ring)
-note_text NoMemory = codes "out of memory"
+note_text outcome = (told_of outcome).1
 
 -- the whole line
 abbrev pub note_of : Outcome → List ℕ

@@ -134,6 +134,7 @@ impl Report {
         ensures cause { result ≡ Noted.Failed → Rose (N.faults notes.old) (N.faults notes.new) }
         ensures good { result ≢ Noted.Failed → N.faults notes.new ≡ N.faults notes.old }
         ensures one { result ≢ Noted.Nothing → result ≢ Noted.NoMemory → N.writes notes.new ≡ raised_count (N.writes notes.old) }
+        ensures none { result ≡ Noted.NoMemory → N.writes notes.new ≡ N.writes notes.old }
         ensures count { N.faults notes.old ≤ N.faults notes.new }
     {
         if self.text.is_empty() {
@@ -153,6 +154,7 @@ pub fn write_early<N: Sink>(notes: &mut N, early: Early) -> Noted
     ensures cause { result ≡ Noted.Failed → Rose (N.faults notes.old) (N.faults notes.new) }
     ensures good { result ≢ Noted.Failed → N.faults notes.new ≡ N.faults notes.old }
     ensures one { result ≢ Noted.NoMemory → N.writes notes.new ≡ raised_count (N.writes notes.old) }
+    ensures none { result ≡ Noted.NoMemory → N.writes notes.new ≡ N.writes notes.old }
     ensures count { N.faults notes.old ≤ N.faults notes.new }
 {
     let mut report = Report::new();

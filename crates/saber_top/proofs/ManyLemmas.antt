@@ -22,21 +22,20 @@ use Rattle.saber_notes.specs.declared.outcome.Outcome.{Outcome}
 use Rattle.saber_notes.specs.declared.outcome.Outcome.TheVariants.{WriteFault}
 use Rattle.saber_cli.proofs.AloneLemmas.{runs_tell}
 use Rattle.saber_cli.proofs.WriteLemmas.{same_run, told_writes}
-use Rattle.saber_cli.specs.Chained.{IsPlanned}
-use Rattle.saber_cli.specs.Due.{Contents, HasRun, contents_of}
+use Rattle.saber_cli.specs.Due.{Contents, HasRun, contents_of, IsPlanned}
 use Rattle.saber_cli.specs.Endings.{ended_as}
 use Rattle.saber_cli.specs.Gives.{Gives}
-use Rattle.saber_cli.specs.Leaves.{AreOf, HadNoFaults}
+use Rattle.saber_cli.specs.Leaves.{AreOf, HadNoFaults, Leaves}
 use Rattle.saber_cli.specs.RowFiles.{after_use}
 use Rattle.saber_cli.specs.Taken.{TakesOf}
 use Rattle.saber_top.specs.declared.ended.TopEnd.TheVariants.{Before, Each}
 use Rattle.saber_top.specs.declared.parts.Part.{Part}
 use Rattle.saber_top.specs.Alone.{AnswersAlone, CutTakesLeft, EachAnswers, TakesLeft}
-use Rattle.saber_top.specs.Commands.{alone, many_sizes, out_names}
+use Rattle.saber_top.specs.Commands.{alone, many_names, out_names}
 use Rattle.saber_top.specs.Comes.{ComesTo, IsTrueOf}
 use Rattle.saber_top.specs.Ends.{EndsUnreadMany, IsCreateEnd, unread_many}
 use Rattle.saber_top.specs.Made.{EarlyMade, IsOfLeft, MadeFirst, naming_all}
-use Rattle.saber_top.specs.ManyLeaves.{AllRead, EarlyFits, LeavesMany, LeavesManyTold, LeftAlone, LeftRan, PlannedBefore, RanFits, SharedFits, UsesFirst, UsesLeft}
+use Rattle.saber_top.specs.ManyLeaves.{AllRead, AsksMany, EarlyFits, LeavesManyTold, LeftAlone, LeftRan, PlannedBefore, RanFits, SharedFits, UsesFirst, UsesLeft}
 use Rattle.saber_top.specs.Queries.{ArePlanned, EndsEarly, HasStream, IsThere, LackShared, MayShare, first_columns}
 use Rattle.saber_top.specs.Shared.{RunsOver}
 use Rattle.saber_top.proofs.LeftLemmas.{read_by}
@@ -81,6 +80,10 @@ are_of_more files (name ∷ names) others (x ∷ xs) h = (h.0, are_of_more files
 abbrev pub Follows : ℕ → (ℕ → List Closed → Type 0) → (ℕ → List Closed → Type 0) → Type 0
 Follows all mine whole = (count : ℕ) (queries more : List Closed) → length queries ≡ all → HadNoFaults queries → mine count more → whole (all + count) (queries ++ more)
 
+-- all files of the call
+abbrev pub LeavesMany : AskedMany → (ℕ → List Closed → Type 0) → FilesView → FilesView → Type 0
+LeavesMany m fits old new = Leaves (length m.queries) (many_names m) (AsksMany old.contents m) fits old new
+
 told_leaves : (m : AskedMany) (fits : ℕ → List Closed → Type 0) (old new : Option FilesView) → ((t : FilesView) → old ≡ Some t → (u : FilesView) × (new ≡ Some u) × LeavesMany m fits t u) → LeavesManyTold m fits old new
 told_leaves m fits None new h = tt
 told_leaves m fits (Some t) new h = h t refl
@@ -100,8 +103,7 @@ left_leaves m mine whole plans old mid new f p share all u = told_leaves m whole
         count = length m.queries + u.count;
         few = few_both m.queries m.left u.count u.few;
         asked = ap (λ x. t.asked ++ x) (sym (take_behind m.queries (m.left ∷ []) u.count));
-        behind = λ n l. planned_front t.contents n m.queries plans planned;
-        left_due = λ l. record { plans = plans; planned = planned; share = share };
+        due = λ n some l. (planned_front t.contents n m.queries plans planned, λ all_read. record { plans = plans; planned = planned; share = share });
         given_back = all.given_back ++ u.given_back;
         closed = refl;
         are_of = are_of_both t.contents m.queries (m.left ∷ []) all.given_back u.given_back all.as_many (told_at (λ v. AreOf (length m.queries) v.contents all.given_back m.queries) old t k all.are_of)
@@ -171,8 +173,7 @@ shared_leaves m e old new u = told_leaves m (EarlyFits (length m.queries) e) old
     count = u.count;
     few = few_front m.queries m.left u.count u.few;
     asked = ap (λ x. t.asked ++ x) (sym (take_front m.queries (m.left ∷ []) u.count u.few));
-    behind = told_at (λ v. PlannedBefore v.contents u.count m.queries) old t k u.behind;
-    left_due = λ l. absurd (omega (arith, l, u.few));
+    due = λ n some l. (told_at (λ v. PlannedBefore v.contents u.count m.queries) old t k u.behind n l, λ all_read. absurd (omega (arith, all_read, l, u.few)));
     given_back = u.given_back;
     closed = refl;
     are_of = are_of_more t.contents m.queries (m.left ∷ []) u.given_back (told_at (λ v. AreOf (length m.queries) v.contents u.given_back m.queries) old t k u.are_of);
@@ -212,18 +213,18 @@ has_run files m query q p = record { text = p.text; there = p.there; plan = p.pl
 
 module _ {T : Type 0} (written : T → Option (List ℕ)) (failed made : T → ℕ) (m : AskedMany) (old mid new : Option FilesView) where
   abbrev pub Over : Tree → Part T → Type 0
-  Over q part = RunsOver written failed made q (many_sizes m) m.left mid new part
+  Over q part = RunsOver written failed made q m.sizes m.left mid new part
 
   answers_one : (t : FilesView) (query : List ℕ) (q : Tree) (part : Part T) (bytes : List ℕ) → IsPlanned t.contents query q → length q.streams ≡ 1 → contents_of t.contents (m.left ∷ []) ≡ Some (bytes ∷ [])
-      → (r : Over q part) → IfSome (contents_of t.contents (m.left ∷ [])) (λ all. GivesOver q (many_sizes m) all r.end part.tasks r.out)
-      → IfSome (contents_of t.contents (m.left ∷ [])) (λ all. made part.out ≡ raised_by 0 (writes_over q (many_sizes m) all r.end part.tasks)) → AnswersAlone written made t.contents (alone m query) part
+      → (r : Over q part) → IfSome (contents_of t.contents (m.left ∷ [])) (λ all. GivesOver q m.sizes all r.end part.tasks r.out)
+      → IfSome (contents_of t.contents (m.left ∷ [])) (λ all. made part.out ≡ raised_by 0 (writes_over q m.sizes all r.end part.tasks)) → AnswersAlone written made t.contents (alone m query) part
   answers_one t query q part bytes p one there r g w = record {
     out = r.out;
     holds = r.holds;
     gives = subst (λ o. Gives t.contents (run (alone m query)) o part.tasks r.out) (sym r.tells.outcome_is)
-        (runs_tell t.contents (alone m query) q (bytes ∷ []) r.end part.tasks r.out (has_run t.contents m query q p) one there (subst (λ x. IfSome x (λ all. GivesOver q (many_sizes m) all r.end part.tasks r.out)) there g));
+        (runs_tell t.contents (alone m query) q (bytes ∷ []) r.end part.tasks r.out (has_run t.contents m query q p) one there (subst (λ x. IfSome x (λ all. GivesOver q m.sizes all r.end part.tasks r.out)) there g));
     one_write = same_run t.contents (alone m query) q part.outcome part.tasks 0 (made part.out) (contents_of t.contents (m.left ∷ [])) (has_run t.contents m query q p)
-        (told_writes q (many_sizes m) (contents_of t.contents (m.left ∷ [])) r.end part.outcome part.tasks 0 (made part.out) r.tells.outcome_is w);
+        (told_writes q m.sizes (contents_of t.contents (m.left ∷ [])) r.end part.outcome part.tasks 0 (made part.out) r.tells.outcome_is w);
   }
 
   answers_each : (t u : FilesView) (names : List (List ℕ)) (plans : List Plan) (parts : List (Part T)) (columns : ℕ) (bytes : List ℕ) → mid ≡ Some u → u.contents ≡ t.contents → ArePlanned t.contents names (map tree_of plans)
@@ -234,10 +235,10 @@ module _ {T : Type 0} (written : T → Option (List ℕ)) (failed made : T → �
   answers_each t u (name ∷ names) [] parts columns bytes e same p share there r = absurd p
   answers_each t u (name ∷ names) (plan ∷ plans) [] columns bytes e same p share there r = absurd r
   answers_each t u (name ∷ names) (plan ∷ plans) (part ∷ parts) columns bytes e same p share there r =
-      let gives = subst (λ o. IfSome o (λ (v : FilesView). IfSome (contents_of v.contents (m.left ∷ [])) (λ all. GivesOver (tree_of plan) (many_sizes m) all r.0.end part.tasks r.0.out))) e r.0.gives in
-      let writes = subst (λ o. IfSome o (λ (v : FilesView). IfSome (contents_of v.contents (m.left ∷ [])) (λ all. made part.out ≡ raised_by 0 (writes_over (tree_of plan) (many_sizes m) all r.0.end part.tasks)))) e r.0.one_write in (
-        answers_one t name (tree_of plan) part bytes p.0 share.0.one there r.0 (subst (λ files. IfSome (contents_of files (m.left ∷ [])) (λ all. GivesOver (tree_of plan) (many_sizes m) all r.0.end part.tasks r.0.out)) same gives)
-            (subst (λ files. IfSome (contents_of files (m.left ∷ [])) (λ all. made part.out ≡ raised_by 0 (writes_over (tree_of plan) (many_sizes m) all r.0.end part.tasks))) same writes),
+      let gives = subst (λ o. IfSome o (λ (v : FilesView). IfSome (contents_of v.contents (m.left ∷ [])) (λ all. GivesOver (tree_of plan) m.sizes all r.0.end part.tasks r.0.out))) e r.0.gives in
+      let writes = subst (λ o. IfSome o (λ (v : FilesView). IfSome (contents_of v.contents (m.left ∷ [])) (λ all. made part.out ≡ raised_by 0 (writes_over (tree_of plan) m.sizes all r.0.end part.tasks)))) e r.0.one_write in (
+        answers_one t name (tree_of plan) part bytes p.0 share.0.one there r.0 (subst (λ files. IfSome (contents_of files (m.left ∷ [])) (λ all. GivesOver (tree_of plan) m.sizes all r.0.end part.tasks r.0.out)) same gives)
+            (subst (λ files. IfSome (contents_of files (m.left ∷ [])) (λ all. made part.out ≡ raised_by 0 (writes_over (tree_of plan) m.sizes all r.0.end part.tasks))) same writes),
         answers_each t u names plans parts columns bytes e same p.1 share.1 there r.1,
       )
 
@@ -260,19 +261,21 @@ module _ {T : Type 0} (written : T → Option (List ℕ)) (failed made : T → �
       some_told : (o : Option FilesView) → old ≡ o → IfSome o (λ t. (u : FilesView) × (new ≡ Some u) × TakesLeft m (alone m query) part.tasks t u)
       some_told None e = tt
       some_told (Some t) e =
-          let one = r.taken sides.Left (read_by m.ring r.end sides.Left (sym r.tells.outcome_is ∙ k)) in (
+          let one = r.taken sides.Left (read_by m.sizes.ring r.end sides.Left (sym r.tells.outcome_is ∙ k)) in (
             _,
             used_twice old mid new m.queries (m.left ∷ []) all.given_back (one.source ∷ []) all.told one.told ∙ ap (λ x. after_use x (m.queries ++ m.left ∷ []) (all.given_back ++ one.source ∷ [])) e,
-            record {
-              plan = q;
-              has_run = has_run t.contents m query q (subst (λ x. IfSome x (λ v. IsPlanned v.contents query q)) e p);
-              queries = all.given_back;
-              as_many = all.as_many;
-              left = one.source;
-              closed = sym (append_assoc t.closed all.given_back (one.source ∷ []));
-              takes = subst (λ x. IfSome x (λ v. TakesOf q m.task (limits_of (many_sizes m)) part.tasks v.contents (m.left ∷ []) (one.source ∷ []))) e
-                  (kept (λ files. TakesOf q m.task (limits_of (many_sizes m)) part.tasks files (m.left ∷ []) (one.source ∷ [])) m.queries all.given_back old mid all.told one.takes);
-            },
+            (
+              q,
+              has_run t.contents m query q (subst (λ x. IfSome x (λ v. IsPlanned v.contents query q)) e p),
+              record {
+                before = all.given_back;
+                as_many = all.as_many;
+                given_back = one.source ∷ [];
+                closed = sym (append_assoc t.closed all.given_back (one.source ∷ []));
+                takes = subst (λ x. IfSome x (λ v. TakesOf q m.sizes.task (limits_of m.sizes) part.tasks v.contents (m.left ∷ []) (one.source ∷ []))) e
+                    (kept (λ files. TakesOf q m.sizes.task (limits_of m.sizes) part.tasks files (m.left ∷ []) (one.source ∷ [])) m.queries all.given_back old mid all.told one.takes);
+              },
+            ),
           )
 
   takes_each : (names : List (List ℕ)) (plans : List Plan) (parts : List (Part T)) → IfSome old (λ t. ArePlanned t.contents names (map tree_of plans)) → length names ≡ length plans → AllRead m.queries old mid → AllZip (λ plan part. Over (tree_of plan) part) plans parts
@@ -304,13 +307,13 @@ module _ {T : Type 0} (written : T → Option (List ℕ)) (failed made : T → �
   writes [] [] r = tt
   writes [] (part ∷ parts) r = absurd r
   writes (plan ∷ plans) [] r = absurd r
-  writes (plan ∷ plans) (part ∷ parts) r = (λ e. r.0.tells.write (write_by m.ring r.0.end (sym r.0.tells.outcome_is ∙ e)), writes plans parts r.1)
+  writes (plan ∷ plans) (part ∷ parts) r = (λ e. r.0.tells.write (write_by m.sizes.ring r.0.end (sym r.0.tells.outcome_is ∙ e)), writes plans parts r.1)
 
   pub writes_good : (plans : List Plan) (parts : List (Part T)) → AllZip (λ plan part. Over (tree_of plan) part) plans parts → AllByRecursion (λ part. part.outcome ≢ WriteFault → failed part.out ≡ 0) parts
   writes_good [] [] r = tt
   writes_good [] (part ∷ parts) r = absurd r
   writes_good (plan ∷ plans) [] r = absurd r
-  writes_good (plan ∷ plans) (part ∷ parts) r = (λ n. r.0.tells.write_good (λ e. n (r.0.tells.outcome_is ∙ ap (ended_as m.ring) e)), writes_good plans parts r.1)
+  writes_good (plan ∷ plans) (part ∷ parts) r = (λ n. r.0.tells.write_good (λ e. n (r.0.tells.outcome_is ∙ ap (ended_as m.sizes.ring) e)), writes_good plans parts r.1)
 
 -- ---- where nothing was done
 
@@ -342,8 +345,7 @@ nothing_left m old = told_leaves m (EarlyFits (length m.queries) NoMemory) old o
     count = 0;
     few = omega arith;
     asked = sym (append-nil t.asked);
-    behind = λ n l. absurd (omega (arith, l));
-    left_due = λ l. absurd (omega (arith, l));
+    due = λ n some l. absurd (omega (arith, l));
     given_back = [];
     closed = sym (append-nil t.closed);
     are_of = tt;

@@ -14,11 +14,10 @@ use Rattle.saber_notes.specs.declared.outcome.Outcome.TheVariants.{Done}
 use Rattle.saber_notes.specs.declared.early.Early.{Early}
 use Rattle.saber_notes.specs.declared.early.Early.TheVariants.{Usage, QueryUnopened, QueryUnread, QueryFault, Unshareable, LeftUnopened, CreateFault, NoMemory}
 use Rattle.saber_cli.specs.Outcomes.{IsOfPlan}
-use Rattle.saber_cli.specs.Due.{Contents}
+use Rattle.saber_cli.specs.Due.{Contents, IsPlanned}
 use Rattle.saber_cli.specs.Uses.{Uses, unasked, unopened, used, IsOfQueryFile}
 use Rattle.saber_cli.specs.Leaves.{AreOf}
 use Rattle.saber_cli.specs.RowFiles.{after_use}
-use Rattle.saber_cli.specs.Chained.{IsPlanned}
 use Rattle.saber_cli.specs.Chaining.{LacksPlan}
 use Rattle.saber_top.specs.Queries.{ArePlanned, HasStream, IsReached, IsFirstUnlike, LackPlans, LackShared, as_early}
 use Rattle.saber_top.specs.ManyLeaves.{AllRead, LackFits, PlannedBefore, SharedFits, UsesFirst}

@@ -1,47 +1,14 @@
 -- Statuses and notes of several queries.
 use Rattle.std.proofs.Common.{◌≡◌, ◌≢◌, ℕ, suc, ◌+◌, List, [], ◌∷◌, ◌++◌, refl, sym, ◌∙◌, ap, subst, arith, append_assoc}
 use Rattle.std.specs.List.{AllByRecursion}
-use Rattle.saber_notes.specs.Notes.{status_of, note_of}
+use Rattle.saber_notes.specs.Notes.{status_of}
 use Rattle.saber_notes.specs.ManyNotes.{early_status, first_status, lines_from, query_line}
 use Rattle.saber_notes.specs.declared.early.Early.{Early}
 use Rattle.saber_notes.specs.declared.early.Early.TheVariants as early
 use Rattle.saber_notes.specs.declared.outcome.Outcome.{Outcome}
 use Rattle.saber_notes.specs.declared.outcome.Outcome.TheVariants.{Done, Usage, FileCount, QueryFault, SecondQueryFault, Unchainable, LineRefused, ChainLineRefused, OpenFault, ReadFault, WriteFault, TooWide, NoMemory}
-use Rattle.saber_top.specs.Ends.{one_note}
 
 -- ---- of one
-
--- status 0 is that of a good end alone
-pub done_alone : (o : Outcome) → status_of o ≡ 0 → o ≡ Done
-done_alone Done e = refl
-done_alone Usage e = absurd (omega (arith, e))
-done_alone (FileCount streams given) e = absurd (omega (arith, e))
-done_alone (QueryFault byte cause) e = absurd (omega (arith, e))
-done_alone (SecondQueryFault byte cause) e = absurd (omega (arith, e))
-done_alone (Unchainable file) e = absurd (omega (arith, e))
-done_alone (LineRefused side line cause) e = absurd (omega (arith, e))
-done_alone (ChainLineRefused line cause) e = absurd (omega (arith, e))
-done_alone (OpenFault file) e = absurd (omega (arith, e))
-done_alone (ReadFault file) e = absurd (omega (arith, e))
-done_alone WriteFault e = absurd (omega (arith, e))
-done_alone (TooWide task need ring) e = absurd (omega (arith, e))
-done_alone NoMemory e = absurd (omega (arith, e))
-
--- any other end is told
-pub told_note : (o : Outcome) → o ≢ Done → note_of o ≡ one_note o
-told_note Done n = absurd (n refl)
-told_note Usage n = refl
-told_note (FileCount streams given) n = refl
-told_note (QueryFault byte cause) n = refl
-told_note (SecondQueryFault byte cause) n = refl
-told_note (Unchainable file) n = refl
-told_note (LineRefused side line cause) n = refl
-told_note (ChainLineRefused line cause) n = refl
-told_note (OpenFault file) n = refl
-told_note (ReadFault file) n = refl
-told_note WriteFault n = refl
-told_note (TooWide task need ring) n = refl
-told_note NoMemory n = refl
 
 -- an end before any query is run has a status of its own
 pub early_some : (e : Early) → early_status e ≡ 0 → ⊥

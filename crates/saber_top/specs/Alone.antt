@@ -1,15 +1,15 @@
 -- What a part says of its query: what a run of that query alone would.
-use Rattle.std.specs.Prelude.{◌≡◌, ℕ, List, [], ◌∷◌, ◌++◌, length, Option, Some, IfSome}
+use Rattle.std.specs.Prelude.{◌≡◌, ℕ, List, length, Option, Some, IfSome}
 use Rattle.std.specs.List.{AllZip}
-use Rattle.saber_io.specs.Outside.{FilesView, Closed}
+use Rattle.saber_io.specs.Outside.{FilesView}
 use Rattle.saber_plan.specs.Trees.{Tree}
 use Rattle.saber_words.specs.Commands.{AskedRun, run}
 use Rattle.saber_words.specs.Many.{AskedMany}
 use Rattle.saber_notes.specs.declared.outcome.InputFile.TheVariants.{Left}
 use Rattle.saber_notes.specs.declared.outcome.Outcome.TheVariants.{ReadFault}
-use Rattle.saber_cli.specs.Due.{Contents, HasRun, asked_limits}
+use Rattle.saber_cli.specs.Due.{Contents, HasRun, row_names}
 use Rattle.saber_cli.specs.Gives.{Gives}
-use Rattle.saber_cli.specs.Taken.{TakesOf}
+use Rattle.saber_cli.specs.Taken.{TakesBehind}
 use Rattle.saber_cli.specs.Writes.{WritesIn}
 use Rattle.saber_top.specs.declared.parts.Part.{Part}
 use Rattle.saber_top.specs.Commands.{alone}
@@ -28,15 +28,9 @@ pub record AnswersAlone {T : Type 0} (written : T → Option (List ℕ)) (writes
 abbrev pub EachAnswers : {T : Type 0} → (T → Option (List ℕ)) → (T → ℕ) → AskedMany → Option FilesView → List (Part T) → Type 0
 EachAnswers written writes m told parts = IfSome told (λ t. AllZip (λ query part. AnswersAlone written writes t.contents (alone m query) part) m.queries parts)
 
--- The left file's source was given back behind those of all queries, and of what was taken of it at least every whole task of the whole lines is assembled.
-pub record TakesLeft (m : AskedMany) (r : AskedRun) (tasks : ℕ) (old new : FilesView) : Type 0 where
-  pub plan : Tree
-  pub has_run : HasRun old.contents r plan
-  pub queries : List Closed
-  pub as_many : length queries ≡ length m.queries
-  pub left : Closed
-  pub closed : new.closed ≡ old.closed ++ queries ++ left ∷ []
-  pub takes : TakesOf plan r.task (asked_limits r) tasks old.contents (r.left ∷ []) (left ∷ [])
+-- the same of the left file, behind those of all queries
+abbrev pub TakesLeft : AskedMany → AskedRun → ℕ → FilesView → FilesView → Type 0
+TakesLeft m r tasks old new = (q : Tree) × HasRun old.contents r q × TakesBehind (length m.queries) q r.sizes tasks (row_names r) old new
 
 -- so it is of a part that ends by a fault of reading, where files tell
 abbrev pub CutTakesLeft : {T : Type 0} → AskedMany → Option FilesView → Option FilesView → List ℕ → Part T → Type 0

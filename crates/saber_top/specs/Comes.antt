@@ -2,16 +2,14 @@
 use Rattle.std.specs.Prelude.{◌≡◌, ◌≢◌, ℕ, List, [], length, Option, IfSome}
 use Rattle.std.specs.List.{AllByRecursion, AllZip}
 use Rattle.saber_io.specs.Outside.{FilesView}
-use Rattle.saber_plan.specs.Outputs.{Rose, appended_text, raised_count, AppendsPrefix}
+use Rattle.saber_plan.specs.Outputs.{Rose}
 use Rattle.saber_words.specs.Many.{AskedMany}
 use Rattle.saber_notes.specs.Notes.{status_of}
-use Rattle.saber_notes.specs.declared.note.Noted.{Noted}
-use Rattle.saber_notes.specs.declared.note.Noted.TheVariants as noted_as
 use Rattle.saber_notes.specs.declared.outcome.Outcome.TheVariants.{WriteFault}
 use Rattle.saber_cli.specs.Outcomes.{IsClean, IsFileFault}
 use Rattle.saber_top.specs.declared.parts.Part.{Part}
 use Rattle.saber_top.specs.declared.ended.TopEnd.{TopEnd}
-use Rattle.saber_top.specs.declared.ended.TopEnd.TheVariants.{One, Before, Each}
+use Rattle.saber_top.specs.declared.ended.TopEnd.TheVariants.{One, Each}
 use Rattle.saber_top.specs.Commands.{out_names}
 use Rattle.saber_top.specs.Queries.{EndsEarly}
 use Rattle.saber_top.specs.Shared.{outcomes_of}
@@ -23,8 +21,7 @@ use Rattle.saber_top.specs.Ends.{EndsBy, IfBefore, IsFileEnd, IsReadWell}
 -- it is no end of one command
 abbrev pub IsOfMany : TopEnd → Type 0
 IsOfMany (One o) = ⊥
-IsOfMany (Before e) = Unit {0}
-IsOfMany Each = Unit {0}
+IsOfMany _ = Unit {0}
 
 -- ---- what is said whatever the words ask for
 
@@ -51,17 +48,3 @@ module _ {F U T : Type 0} (told : F → Option FilesView) (asked : U → Option 
     pub leaves_each : end ≡ Each → LeavesManyTold m (RanFits (length m.queries) (outcomes_of parts)) (told old) (told new)
     pub made : IfBefore end (λ e. MadeFirst m.queries (EarlyMade 0 e) (asked outs_old) (asked outs_new))
     pub made_each : end ≡ Each → asked outs_new ≡ naming_all (asked outs_old) (out_names m.queries)
-
--- ---- notes
-
--- The notes tell this text, in one write: the whole, or a prefix where their sink failed, or nothing where it lacked memory; and nothing with status 0.
-module _ {N : Type 0} (written : N → Option (List ℕ)) (faults writes : N → ℕ) where
-  pub record TellsNotes (old new : N) (status : ℕ) (noted : Noted) (text : List ℕ) : Type 0 where
-    pub nothing : status ≡ 0 → (noted ≡ noted_as.Nothing) × (new ≡ old)
-    pub something : status ≢ 0 → noted ≢ noted_as.Nothing
-    pub whole : noted ≡ noted_as.Whole → written new ≡ appended_text (written old) text
-    pub failed : noted ≡ noted_as.Failed → AppendsPrefix (written old) (written new) text
-    pub memory : noted ≡ noted_as.NoMemory → written new ≡ written old
-    pub note : noted ≡ noted_as.Failed → Rose (faults old) (faults new)
-    pub note_good : noted ≢ noted_as.Failed → faults new ≡ faults old
-    pub one : status ≢ 0 → noted ≢ noted_as.NoMemory → writes new ≡ raised_count (writes old)

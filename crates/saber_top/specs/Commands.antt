@@ -1,7 +1,6 @@
 -- Which words ask for several queries over one input, and what each of them is asked.
 use Rattle.std.specs.Prelude.{◌≡◌, ℕ, List, [], ◌∷◌, ◌++◌, Bool, true, false, Some, None, codes, map}
 use Rattle.std.specs.Str.{bytes_eq}
-use Rattle.saber_plan.specs.declared.sizes.Sizes.{Sizes}
 use Rattle.saber_words.specs.Commands.{AskedRun}
 use Rattle.saber_words.specs.Many.{AskedMany, many_of, out_name}
 
@@ -17,21 +16,7 @@ IfMany ws P = is_many ws ≡ true → (m : AskedMany) → many_of ws ≡ Some m 
 
 -- the run of one of the queries alone: over the same file, with the same sizes
 abbrev pub alone : AskedMany → List ℕ → AskedRun
-alone m query = record {
-  query = query;
-  left = m.left;
-  right = None;
-  task = m.task;
-  ring = m.ring;
-  threads = m.threads;
-  most = m.most;
-  slack = m.slack;
-  flush = m.flush;
-}
-
--- the sizes of each
-abbrev pub many_sizes : AskedMany → Sizes
-many_sizes m = record { task = m.task; ring = m.ring; threads = m.threads; max_lines = m.most; slack = m.slack; flush = m.flush }
+alone m query = record { query = query; left = m.left; right = None; sizes = m.sizes }
 
 -- the files that are opened, in their order: the queries' and then the left one
 abbrev pub many_names : AskedMany → List (List ℕ)

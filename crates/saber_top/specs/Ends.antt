@@ -1,5 +1,5 @@
 -- How a call ends: its status and its notes.
-use Rattle.std.specs.Prelude.{◌≡◌, ◌⊎◌, ℕ, List, []}
+use Rattle.std.specs.Prelude.{◌≡◌, ◌⊎◌, ℕ, List}
 use Rattle.saber_words.specs.declared.commands.WordsFault.{WordsFault}
 use Rattle.saber_words.specs.declared.commands.WordsFault.TheVariants as fault
 use Rattle.saber_notes.specs.Notes.{status_of, note_of}
@@ -7,15 +7,13 @@ use Rattle.saber_notes.specs.ManyNotes.{early_status, early_note, first_status, 
 use Rattle.saber_notes.specs.declared.early.Early.{Early}
 use Rattle.saber_notes.specs.declared.early.Early.TheVariants as early
 use Rattle.saber_notes.specs.declared.outcome.Outcome.{Outcome}
-use Rattle.saber_notes.specs.declared.outcome.Outcome.TheVariants as ends
 use Rattle.saber_top.specs.declared.ended.TopEnd.{TopEnd}
 use Rattle.saber_top.specs.declared.ended.TopEnd.TheVariants.{One, Before, Each}
 
 -- a fact of an end before any query is run
 abbrev pub IfBefore : TopEnd → (Early → Type 0) → Type 0
-IfBefore (One o) P = Unit {0}
 IfBefore (Before e) P = P e
-IfBefore Each P = Unit {0}
+IfBefore _ P = Unit {0}
 
 -- The status: that of the one command's end, or of the end before any query is run, or else the first of the queries' that isn't 0.
 abbrev pub top_status : TopEnd → List Outcome → ℕ
@@ -23,14 +21,10 @@ top_status (One o) outcomes = status_of o
 top_status (Before e) outcomes = early_status e
 top_status Each outcomes = first_status outcomes
 
--- the note of one command; a call that is done has none
-abbrev pub one_note : Outcome → List ℕ
-one_note ends.Done = []
-one_note o = note_of o
-
--- The notes: that of the one command's end, or of the end before any query is run, or else a line for each query whose status isn't 0, in their order.
+-- The notes, where the status isn't 0: that of the one command's end, or of the end before any query is run, or else a line for each query whose status isn't 0,
+-- in their order.
 abbrev pub top_notes : TopEnd → List Outcome → List ℕ
-top_notes (One o) outcomes = one_note o
+top_notes (One o) outcomes = note_of o
 top_notes (Before e) outcomes = early_note e
 top_notes Each outcomes = query_lines outcomes
 
@@ -58,9 +52,8 @@ IsCreateEnd _ = ⊥
 
 -- the call ended before any query was run, and so
 abbrev pub EndsBy : TopEnd → (Early → Type 0) → Type 0
-EndsBy (One o) P = ⊥
 EndsBy (Before e) P = P e
-EndsBy Each P = ⊥
+EndsBy _ P = ⊥
 
 -- why no command was read
 abbrev pub unread_many : WordsFault → Early

@@ -7,7 +7,7 @@ use Rattle.saber_plan.specs.Trees.{tree_of}
 use Rattle.saber_engine.specs.declared.jobs.Job.{Job}
 use Rattle.saber_engine.specs.Jobs.{tree_in, sink_in}
 use Rattle.saber_notes.specs.declared.early.Early.{Early}
-use Rattle.saber_notes.specs.declared.early.Early.TheVariants.{Usage, QueryUnopened, QueryUnread, QueryFault, Unshareable, LeftUnopened, CreateFault, NoMemory}
+use Rattle.saber_notes.specs.declared.early.Early.TheVariants.{LeftUnopened, CreateFault, NoMemory}
 use Rattle.saber_words.specs.Many.{out_name}
 use Rattle.saber_top.specs.Commands.{out_names}
 
@@ -24,14 +24,9 @@ pub record IsNew {T : Type 0} (written : T → Option (List ℕ)) (failed made :
 -- How many were asked for, of queries behind so many others, where none was run: those up to the one that could not be created, any number where memory
 -- lacked, and else none.
 abbrev pub EarlyMade : ℕ → Early → ℕ → Type 0
-EarlyMade others Usage count = count ≡ 0
-EarlyMade others (QueryUnopened number) count = count ≡ 0
-EarlyMade others (QueryUnread number) count = count ≡ 0
-EarlyMade others (QueryFault number byte cause) count = count ≡ 0
-EarlyMade others (Unshareable number) count = count ≡ 0
-EarlyMade others LeftUnopened count = count ≡ 0
 EarlyMade others (CreateFault number) count = (number ≡ others + count) × (1 ≤ count)
 EarlyMade others NoMemory count = Unit {0}
+EarlyMade others _ count = count ≡ 0
 
 -- the files of the first so many of these queries were asked for, in their order, and no others
 pub record MadeFirst (queries : List (List ℕ)) (fits : ℕ → Type 0) (old new : Option (List (List ℕ))) : Type 0 where

@@ -10,7 +10,7 @@ use Rattle.saber_notes.specs.declared.outcome.InputFile.TheVariants.{Left}
 use Rattle.saber_notes.specs.declared.outcome.Outcome.{Outcome}
 use Rattle.saber_notes.specs.declared.outcome.Outcome.TheVariants.{ReadFault}
 use Rattle.saber_cli.specs.Due.{Contents}
-use Rattle.saber_cli.specs.Leaves.{AreGivenBack, AreOf, HadNoFaults}
+use Rattle.saber_cli.specs.Leaves.{AreGivenBack, AreOf, HadNoFaults, Leaves}
 use Rattle.saber_cli.specs.Outcomes.{IsClean}
 use Rattle.saber_cli.specs.RowFiles.{after_use}
 use Rattle.saber_top.specs.Commands.{many_names}
@@ -56,29 +56,19 @@ pub record RanFits (all : ℕ) (outcomes : List Outcome) (asked : ℕ) (given_ba
 
 -- ---- the files
 
--- all queries that stand before one of the first so many have plans
-abbrev pub PlannedBefore : Contents → ℕ → List (List ℕ) → Type 0
-PlannedBefore files count names = (n : ℕ) → n < count → (plans : List Tree) × ArePlanned files (take n names) plans
-
--- The call asked for the first of its files, in this order, and gave the opened ones back in the order of their opening: for a query's only behind queries
--- with plans, and for the left file only behind queries that can share it.
-pub record LeavesMany (m : AskedMany) (fits : ℕ → List Closed → Type 0) (old new : FilesView) : Type 0 where
-  pub contents : new.contents ≡ old.contents
-  pub count : ℕ
-  pub few : count ≤ length (many_names m)
-  pub asked : new.asked ≡ old.asked ++ take count (many_names m)
-  pub behind : PlannedBefore old.contents count m.queries
-  pub left_due : length m.queries < count → AreShared old.contents m.queries
-  pub given_back : List Closed
-  pub closed : new.closed ≡ old.closed ++ given_back
-  pub are_of : AreOf (length m.queries) old.contents given_back (many_names m)
-  pub matches : fits count given_back
+-- The file behind the first n is asked for: a query's behind queries with plans, and the left file behind all queries where they can share it.
+abbrev pub AsksMany : Contents → AskedMany → ℕ → Type 0
+AsksMany files m n = ((plans : List Tree) × ArePlanned files (take n m.queries) plans) × (n ≡ length m.queries → AreShared files m.queries)
 
 -- where files tell, they still do, and those of the call were used so
 abbrev pub LeavesManyTold : AskedMany → (ℕ → List Closed → Type 0) → Option FilesView → Option FilesView → Type 0
-LeavesManyTold m fits old new = IfSome old (λ t. (u : FilesView) × (new ≡ Some u) × LeavesMany m fits t u)
+LeavesManyTold m fits old new = IfSome old (λ t. (u : FilesView) × (new ≡ Some u) × Leaves (length m.queries) (many_names m) (AsksMany t.contents m) fits t u)
 
 -- ---- parts of it
+
+-- all queries that stand before one of the first so many have plans
+abbrev pub PlannedBefore : Contents → ℕ → List (List ℕ) → Type 0
+PlannedBefore files count names = (n : ℕ) → n < count → (plans : List Tree) × ArePlanned files (take n names) plans
 
 -- The queries' files were asked for and given back, and nothing failed.
 pub record AllRead (names : List (List ℕ)) (old new : Option FilesView) : Type 0 where

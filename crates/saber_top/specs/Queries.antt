@@ -11,8 +11,7 @@ use Rattle.saber_notes.specs.declared.outcome.Outcome.{Outcome}
 use Rattle.saber_notes.specs.declared.outcome.Outcome.TheVariants as outcomes
 use Rattle.saber_notes.specs.declared.early.Early.{Early}
 use Rattle.saber_notes.specs.declared.early.Early.TheVariants.{Usage, QueryUnopened, QueryUnread, QueryFault, Unshareable, LeftUnopened, CreateFault, NoMemory}
-use Rattle.saber_cli.specs.Due.{Contents, IsFaulty}
-use Rattle.saber_cli.specs.Chained.{IsPlanned}
+use Rattle.saber_cli.specs.Due.{Contents, IsFaulty, IsPlanned}
 
 -- ---- plans
 

@@ -3,12 +3,13 @@ use Rattle.std.specs.Prelude.{◌≡◌, ℕ, List, None, Option, true, false}
 use Rattle.saber_io.specs.Outside.{FilesView}
 use Rattle.saber_plan.specs.Outputs.{Rose}
 use Rattle.saber_words.specs.Many.{many_of}
+use Rattle.saber_notes.specs.Told.{TellsNotes}
 use Rattle.saber_notes.specs.declared.early.Early.TheVariants.{Usage}
 use Rattle.saber_top.specs.declared.ended.Top.{Top}
 use Rattle.saber_top.specs.declared.ended.TopEnd.TheVariants.{Before}
 use Rattle.saber_top.specs.Commands.{is_many, IfMany}
 use Rattle.saber_top.specs.Shared.{outcomes_of, parts_in}
-use Rattle.saber_top.specs.Comes.{ComesTo, IsOfMany, IsTrueOf, TellsNotes}
+use Rattle.saber_top.specs.Comes.{ComesTo, IsOfMany, IsTrueOf}
 use Rattle.saber_top.specs.Ends.{EndsBy, EndsUnreadMany, IsCreateEnd, top_notes, top_status}
 use Rattle.saber_top.specs.Others.{IsSaber}
 

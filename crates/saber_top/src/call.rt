@@ -5,7 +5,8 @@ ghost use Rattle.saber_top.specs.declared.ended.TopEnd.{TopEnd};
 ghost use Rattle.saber_top.specs.Commands.{is_many};
 ghost use Rattle.saber_top.specs.Shared.{outcomes_of, parts_in};
 ghost use Rattle.saber_top.specs.Ends.{top_notes, top_status};
-ghost use Rattle.saber_top.specs.Comes.{IsTrueOf, TellsNotes};
+ghost use Rattle.saber_notes.specs.Told.{TellsNotes};
+ghost use Rattle.saber_top.specs.Comes.{IsTrueOf};
 ghost use Rattle.saber_top.specs.Others.{IsSaber};
 ghost use Rattle.saber_top.specs.Says.{SaysTop};
 

@@ -20,8 +20,8 @@ pub struct Top<K, T> {
     pub status: u8,
     /// The sink that was handed in, with what was written to it.
     pub sink: K,
-    /// How many tasks are assembled; 0 where nothing was run, and of several queries, whose parts
-    /// tell theirs.
+    /// How many tasks are assembled; 0 where nothing was run, where `demo` lacks memory, and of
+    /// several queries, whose parts tell theirs.
     pub tasks: u64,
     /// What became of the notes.
     pub noted: Noted,

@@ -5,7 +5,6 @@ ghost use Rattle.saber_plan.specs.Sizes.{SizesFit};
 ghost use Rattle.saber_words.specs.Many.{AskedMany, asked_many, many_of, HasManySizes};
 ghost use Rattle.saber_notes.specs.declared.early.Early.{Early};
 ghost use Rattle.saber_top.specs.declared.ended.TopEnd.{TopEnd};
-ghost use Rattle.saber_top.specs.Commands.{many_sizes};
 ghost use Rattle.saber_top.specs.Shared.{parts_in};
 ghost use Rattle.saber_top.specs.Comes.{ComesTo, IsOfMany, IsTrueOf};
 ghost use Rattle.saber_top.specs.Ends.{EndsBy, EndsUnreadMany, IsCreateEnd, unread_many};
@@ -43,7 +42,7 @@ fn ended_before<T>(alloc: Global, early: Early) -> Came<T>
 // The sizes of each query.
 fn sizes_of(many: &Many<'_>) -> Sizes
     requires { HasManySizes (asked_many many.now) }
-    ensures sizes { result ≡ many_sizes (asked_many many.now) }
+    ensures sizes { result ≡ (asked_many many.now).sizes }
     ensures fit { SizesFit result }
     ensures threads { result.threads ≤ 8 }
 {

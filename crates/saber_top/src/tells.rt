@@ -3,7 +3,8 @@ ghost use Rattle.std.specs.Prelude.{◌≡◌, ◌≤◌, ◌<◌, ◌+◌, ◌*
 ghost use Rattle.saber_notes.specs.ManyNotes.{lines_from};
 ghost use Rattle.saber_notes.specs.Reports.{notes_in};
 ghost use Rattle.saber_top.specs.Shared.{outcomes_of, parts_in};
-ghost use Rattle.saber_top.specs.Comes.{IsOfMany, TellsNotes};
+ghost use Rattle.saber_notes.specs.Told.{TellsNotes};
+ghost use Rattle.saber_top.specs.Comes.{IsOfMany};
 ghost use Rattle.saber_top.specs.Ends.{top_notes, top_status};
 
 use crate::ended::TopEnd;

@@ -114,7 +114,7 @@ run_after_dashes = refl
 
 -- a run of `q` over `l`, in tasks of so many rows, over files of at most so many lines
 sized : ℕ → ℕ → Option Asked
-sized task most = Some (run (record { query = codes "q"; left = codes "l"; right = None; task = task; ring = 64; threads = 2; most = most; slack = 0; flush = false }))
+sized task most = Some (run (record { query = codes "q"; left = codes "l"; right = None; sizes = record { task = task; ring = 64; threads = 2; max_lines = most; slack = 0; flush = false } }))
 
 -- a number in its range, in a word of its own or behind `=`, and at any place among the files
 least_task : saber (codes "run" ∷ codes "q" ∷ codes "l" ∷ codes "--task" ∷ codes "1" ∷ []) ≡ sized 1 (2 ^ 40)
@@ -185,7 +185,7 @@ both = refl
 
 -- the ring and the threads
 placed : ℕ → ℕ → Option Asked
-placed ring threads = Some (run (record { query = codes "q"; left = codes "l"; right = None; task = 1024; ring = ring; threads = threads; most = 2 ^ 40; slack = 0; flush = false }))
+placed ring threads = Some (run (record { query = codes "q"; left = codes "l"; right = None; sizes = record { task = 1024; ring = ring; threads = threads; max_lines = 2 ^ 40; slack = 0; flush = false } }))
 
 least_ring : saber (codes "run" ∷ codes "q" ∷ codes "l" ∷ codes "--ring" ∷ codes "1" ∷ codes "--threads" ∷ codes "0" ∷ []) ≡ placed 1 0
 unfolding saber placed command_of is_taken clap_on_literals
@@ -209,7 +209,7 @@ threads_past_most = refl
 
 -- the slack
 slacked : ℕ → Option Asked
-slacked slack = Some (run (record { query = codes "q"; left = codes "l"; right = None; task = 1024; ring = 64; threads = 2; most = 2 ^ 40; slack = slack; flush = false }))
+slacked slack = Some (run (record { query = codes "q"; left = codes "l"; right = None; sizes = record { task = 1024; ring = 64; threads = 2; max_lines = 2 ^ 40; slack = slack; flush = false } }))
 
 least_slack : saber (codes "run" ∷ codes "q" ∷ codes "l" ∷ codes "--slack" ∷ codes "0" ∷ []) ≡ slacked 0
 unfolding saber slacked command_of is_taken clap_on_literals
@@ -249,7 +249,7 @@ task_before_run = refl
 
 -- a run of `q` over `l` whose input's end closes windows
 ending : Option Asked
-ending = Some (run (record { query = codes "q"; left = codes "l"; right = None; task = 1024; ring = 64; threads = 2; most = 2 ^ 40; slack = 0; flush = true }))
+ending = Some (run (record { query = codes "q"; left = codes "l"; right = None; sizes = record { task = 1024; ring = 64; threads = 2; max_lines = 2 ^ 40; slack = 0; flush = true } }))
 
 final_behind : saber (codes "run" ∷ codes "q" ∷ codes "l" ∷ codes "--final" ∷ []) ≡ ending
 unfolding saber ending command_of is_taken clap_on_literals
@@ -305,7 +305,7 @@ chain_of_three_files = refl
 
 -- each of its options with the least that it takes and the most
 chained : ℕ → ℕ → ℕ → ℕ → ℕ → Option Asked
-chained task ring threads most slack = Some (chain (record { first = codes "a"; second = codes "b"; left = codes "l"; right = None; task = task; ring = ring; threads = threads; most = most; slack = slack }))
+chained task ring threads most slack = Some (chain (record { first = codes "a"; second = codes "b"; left = codes "l"; right = None; sizes = record { task = task; ring = ring; threads = threads; max_lines = most; slack = slack; flush = false } }))
 
 least_of_chain : saber (codes "chain" ∷ codes "a" ∷ codes "b" ∷ codes "l" ∷ codes "--task" ∷ codes "1" ∷ codes "--ring=1" ∷ codes "--threads" ∷ codes "0" ∷ codes "--max-lines" ∷ codes "1" ∷ codes "--slack" ∷ codes "0" ∷ []) ≡ chained 1 1 0 1 0
 unfolding saber chained command_of is_taken clap_on_literals

@@ -10,7 +10,7 @@ many words = many_of (codes "saber" ∷ codes "many" ∷ words)
 
 -- these queries over `l`, with no option
 asking : List Text → Option AskedMany
-asking queries = Some (record { left = codes "l"; queries = queries; task = 1024; ring = 64; threads = 2; most = 2 ^ 40; slack = 0; flush = false })
+asking queries = Some (record { left = codes "l"; queries = queries; sizes = record { task = 1024; ring = 64; threads = 2; max_lines = 2 ^ 40; slack = 0; flush = false } })
 
 many_of_one : many (codes "l" ∷ codes "a" ∷ []) ≡ asking (codes "a" ∷ [])
 unfolding many asking many_of clap_on_literals
@@ -53,7 +53,7 @@ many_of_nine_with_options = refl
 
 -- each of its options with the least that it takes and the most
 sized_many : List Text → ℕ → ℕ → ℕ → ℕ → ℕ → Bool → Option AskedMany
-sized_many queries task ring threads most slack flush = Some (record { left = codes "l"; queries = queries; task = task; ring = ring; threads = threads; most = most; slack = slack; flush = flush })
+sized_many queries task ring threads most slack flush = Some (record { left = codes "l"; queries = queries; sizes = record { task = task; ring = ring; threads = threads; max_lines = most; slack = slack; flush = flush } })
 
 least_of_many : many (codes "l" ∷ codes "a" ∷ codes "--task" ∷ codes "1" ∷ codes "--ring=1" ∷ codes "--threads" ∷ codes "0" ∷ codes "--max-lines" ∷ codes "1" ∷ codes "--slack" ∷ codes "0" ∷ []) ≡ sized_many (codes "a" ∷ []) 1 1 0 1 0 false
 unfolding many sized_many many_of clap_on_literals

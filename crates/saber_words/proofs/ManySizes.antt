@@ -6,7 +6,7 @@ use Rattle.clap.specs.Walk.{Row, Text, first_of}
 use Rattle.clap.specs.Simple.{subcommand_of}
 use Rattle.clap.specs.Kinds.{Kinds}
 use Rattle.clap.specs.Faults.{fault_of}
-use Rattle.saber_words.specs.Commands.{Numbers, max_lines, ring, slack, task}
+use Rattle.saber_words.specs.Commands.{Numbers, max_lines, ring, sizes_with, slack, task}
 use Rattle.saber_words.specs.Numbers.{number_by}
 use Rattle.saber_words.specs.Flags.{flag_by}
 use Rattle.saber_words.specs.Many.{AskedMany, HasManySizes, few_numbers_by, few_threads, many_app, many_by, many_in, many_of, many_with, others, queries_by, queries_in}
@@ -32,20 +32,14 @@ with_sized None queries numbers flush m eight few is = cc
 with_sized (Some left) [] numbers flush m eight few is = cc
 with_sized (Some left) (query ∷ more) None flush m eight few is = cc
 with_sized (Some left) (query ∷ more) (Some n) flush m eight few is =
-    let whole : AskedMany = record { left = left; queries = query ∷ more; task = n.task; ring = n.ring; threads = n.threads; most = n.most; slack = n.slack; flush = flush } in
+    let whole : AskedMany = record { left = left; queries = query ∷ more; sizes = sizes_with n flush } in
     let same : whole ≡ m = cc in
     let f = few n refl in
     subst HasManySizes same (record {
       some_queries = omega arith;
       few_queries = eight;
-      some_rows = f.0;
-      few_rows = f.1;
-      some_cells = f.2;
-      few_cells = f.3;
       few_threads = f.4;
-      some_lines = f.5;
-      few_lines = f.6;
-      small_slack = f.7;
+      fit = record { task = (f.0, f.1); ring = (f.2, f.3); threads = omega (arith, f.4); lines = (f.5, f.6); slack = f.7 };
     })
 
 by_sized : (rows : List Row) (m : AskedMany) → many_by rows ≡ Some m → HasManySizes m

@@ -4,7 +4,7 @@ use Rattle.std.specs.Str.{bytes_eq}
 use Rattle.std.specs.Prelude.{option_and_then}
 use Rattle.clap.specs.Walk.{Row, Text, first_of}
 use Rattle.clap.specs.Simple.{subcommand_of}
-use Rattle.saber_words.specs.Commands.{Asked, IsSized, Numbers, asked_by, chain, chain_by, chain_with, check, check_by, command_of, demo, demo_by, is_taken, max_lines, numbers_by, numbers_with, ring, run, run_by, run_with, saber_app, slack, task, threads}
+use Rattle.saber_words.specs.Commands.{Asked, IsSized, Numbers, asked_by, chain, chain_by, chain_with, check, check_by, command_of, demo, demo_by, is_taken, max_lines, numbers_by, numbers_with, ring, run, run_by, run_with, saber_app, sizes_with, slack, task, threads}
 use Rattle.saber_words.specs.Demo.{demo_with, rows, seed}
 use Rattle.saber_words.specs.Numbers.{Numeric, number_by}
 use Rattle.saber_words.specs.Flags.{flag_by}
@@ -39,9 +39,9 @@ run_sized None left right numbers flush c few is = cc
 run_sized (Some query) None right numbers flush c few is = cc
 run_sized (Some query) (Some left) right None flush c few is = cc
 run_sized (Some query) (Some left) right (Some n) flush c few is =
-    let same : run (record { query = query; left = left; right = right; task = n.task; ring = n.ring; threads = n.threads; most = n.most; slack = n.slack; flush = flush }) ≡ c = cc in
+    let same : run (record { query = query; left = left; right = right; sizes = sizes_with n flush }) ≡ c = cc in
     let f = few n refl in
-    subst IsSized same (record { some_rows = f.0; few_rows = f.1; some_cells = f.2; few_cells = f.3; few_threads = f.4; some_lines = f.5; few_lines = f.6; small_slack = f.7 })
+    subst IsSized same (record { task = (f.0, f.1); ring = (f.2, f.3); threads = f.4; lines = (f.5, f.6); slack = f.7 })
 
 chain_sized : (first second left right : Option Text) (numbers : Option Numbers) (c : Asked) → ((n : Numbers) → numbers ≡ Some n → (1 ≤ n.task) × (n.task ≤ 65536) × (1 ≤ n.ring) × (n.ring ≤ 1024) × (n.threads ≤ 64) × (1 ≤ n.most) × (n.most ≤ 2 ^ 40) × (n.slack ≤ 2 ^ 40))
     → chain_with first second left right numbers ≡ Some c → IsSized c
@@ -50,9 +50,9 @@ chain_sized (Some first) None left right numbers c few is = cc
 chain_sized (Some first) (Some second) None right numbers c few is = cc
 chain_sized (Some first) (Some second) (Some left) right None c few is = cc
 chain_sized (Some first) (Some second) (Some left) right (Some n) c few is =
-    let same : chain (record { first = first; second = second; left = left; right = right; task = n.task; ring = n.ring; threads = n.threads; most = n.most; slack = n.slack }) ≡ c = cc in
+    let same : chain (record { first = first; second = second; left = left; right = right; sizes = sizes_with n false }) ≡ c = cc in
     let f = few n refl in
-    subst IsSized same (record { some_rows = f.0; few_rows = f.1; some_cells = f.2; few_cells = f.3; few_threads = f.4; some_lines = f.5; few_lines = f.6; small_slack = f.7 })
+    subst IsSized same (record { task = (f.0, f.1); ring = (f.2, f.3); threads = f.4; lines = (f.5, f.6); slack = f.7 })
 
 check_sized : (query : Option Text) (c : Asked) → option_map (λ q. check (record { query = q })) query ≡ Some c → IsSized c
 check_sized None c is = cc

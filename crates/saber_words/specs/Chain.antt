@@ -1,20 +1,17 @@
 -- What `chain` asks for.
-use Rattle.std.specs.Prelude.{◌≤◌, ◌^◌, ℕ, Option, option_map}
+use Rattle.std.specs.Prelude.{Option, option_map, false}
 use Rattle.clap.specs.Walk.{Text}
+use Rattle.saber_plan.specs.declared.sizes.Sizes.{Sizes}
 use Rattle.saber_words.specs.declared.commands.Chain.{Chain}
 
--- a run of a query over its files, and of a second one over the lines that the first writes, each by its name: both in tasks of so many rows, on a ring of
--- so many cells, by so many threads beside the caller's; over files of the first of at most so many lines, whose timestamps fall by at most so much
+-- a run of a query over its files, and of a second one over the lines that the first writes, each by its name: both in tasks, rings and threads of these
+-- sizes, whose lines and slack are those of the first one's files; the end of the input closes no window
 pub record AskedChain : Type 0 where
   pub first : Text
   pub second : Text
   pub left : Text
   pub right : Option Text
-  pub task : ℕ
-  pub ring : ℕ
-  pub threads : ℕ
-  pub most : ℕ
-  pub slack : ℕ
+  pub sizes : Sizes
 
 abbrev pub asked_chain : Chain → AskedChain
 asked_chain a = record {
@@ -22,20 +19,5 @@ asked_chain a = record {
   second = a.second.now;
   left = a.left.now;
   right = option_map (λ name. name.now) a.right;
-  task = a.task;
-  ring = a.ring;
-  threads = a.threads;
-  most = a.max_lines;
-  slack = a.slack;
+  sizes = record { task = a.task; ring = a.ring; threads = a.threads; max_lines = a.max_lines; slack = a.slack; flush = false };
 }
-
--- 1 to 65,536 rows of a task, 1 to 1,024 cells of the ring, at most 64 threads, 1 to 2^40 lines of a file, and timestamps that fall by at most 2^40
-pub record HasChainSizes (a : AskedChain) : Type 0 where
-  pub some_rows : 1 ≤ a.task
-  pub few_rows : a.task ≤ 65536
-  pub some_cells : 1 ≤ a.ring
-  pub few_cells : a.ring ≤ 1024
-  pub few_threads : a.threads ≤ 64
-  pub some_lines : 1 ≤ a.most
-  pub few_lines : a.most ≤ 2 ^ 40
-  pub small_slack : a.slack ≤ 2 ^ 40

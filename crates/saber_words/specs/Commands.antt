@@ -1,11 +1,13 @@
 -- Which words are a command, and what a command asks for.
-use Rattle.std.specs.Prelude.{◌==◌, ◌≤◌, ◌^◌, ℕ, not, List, [], ◌∷◌, Bool, true, false, Option, Some, None, if◌then◌else◌, codes, option_map, option_and_then, ⊤}
+use Rattle.std.specs.Prelude.{◌==◌, ◌^◌, ℕ, not, List, [], ◌∷◌, Bool, true, false, Option, Some, None, if◌then◌else◌, codes, option_map, option_and_then, ⊤}
 use Rattle.std.specs.Str.{bytes_eq}
 use Rattle.clap.specs.Walk.{Row, Rule, Text, first_of}
+use Rattle.saber_plan.specs.declared.sizes.Sizes.{Sizes}
+use Rattle.saber_plan.specs.Sizes.{SizesFit}
 use Rattle.saber_words.specs.Numbers.{Numeric, number_by, number_in, number_rule}
 use Rattle.saber_words.specs.Flags.{flag_by, flag_rule}
 use Rattle.saber_words.specs.Demo.{AskedDemo, HasDemoSizes, asked_demo, demo_with, positional_rule, rows, seed}
-use Rattle.saber_words.specs.Chain.{AskedChain, HasChainSizes, asked_chain}
+use Rattle.saber_words.specs.Chain.{AskedChain, asked_chain}
 use Rattle.clap.specs.Kinds.{Kinds}
 use Rattle.clap.specs.Simple.{App, Shape, new_rule, new_shape, subcommand_of}
 use Rattle.clap.specs.Faults.{fault_of}
@@ -16,19 +18,13 @@ use Rattle.saber_words.specs.declared.numbers.RunSizes.{RunSizes}
 
 -- ---- what may be asked for
 
--- a run of a query over its files, each by its name: in tasks of so many rows, on a ring of so many cells, by so many threads
--- beside the caller's, over files of at most so many lines, whose timestamps fall by at most so much, and whether the end of the input closes the windows that
--- are begun
+-- a run of a query over its files, each by its name, in these sizes: the rows of a task, the cells of the ring, the threads beside the caller's; the lines
+-- that a file may have, and by how much its timestamps may fall; and whether the end of the input closes the windows that are begun
 pub record AskedRun : Type 0 where
   pub query : Text
   pub left : Text
   pub right : Option Text
-  pub task : ℕ
-  pub ring : ℕ
-  pub threads : ℕ
-  pub most : ℕ
-  pub slack : ℕ
-  pub flush : Bool
+  pub sizes : Sizes
 
 -- a check of a query, by the name of its file
 pub record AskedCheck : Type 0 where
@@ -47,12 +43,7 @@ asked_run r = record {
   query = r.query.now;
   left = r.left.now;
   right = option_map (λ name. name.now) r.right;
-  task = r.task;
-  ring = r.ring;
-  threads = r.threads;
-  most = r.max_lines;
-  slack = r.slack;
-  flush = r.flush;
+  sizes = record { task = r.task; ring = r.ring; threads = r.threads; max_lines = r.max_lines; slack = r.slack; flush = r.flush };
 }
 
 abbrev pub asked_command : Command → Asked
@@ -131,23 +122,12 @@ saber_app = record { top = saber_shape; subs = run_shape ∷ check_shape ∷ dem
 
 -- ---- the sizes of a run
 
--- 1 to 65,536 rows of a task, 1 to 1,024 cells of the ring, at most 64 threads, 1 to 2^40 lines of a file, and timestamps that fall by at most 2^40
-pub record HasSizes (r : AskedRun) : Type 0 where
-  pub some_rows : 1 ≤ r.task
-  pub few_rows : r.task ≤ 65536
-  pub some_cells : 1 ≤ r.ring
-  pub few_cells : r.ring ≤ 1024
-  pub few_threads : r.threads ≤ 64
-  pub some_lines : 1 ≤ r.most
-  pub few_lines : r.most ≤ 2 ^ 40
-  pub small_slack : r.slack ≤ 2 ^ 40
-
--- the same of a command, where it is a run
+-- those that a command has are within the limits of a run
 abbrev pub IsSized : Asked → Type 0
-IsSized (run r) = HasSizes r
+IsSized (run r) = SizesFit r.sizes
 IsSized (check c) = ⊤
 IsSized (demo d) = HasDemoSizes d
-IsSized (chain a) = HasChainSizes a
+IsSized (chain a) = SizesFit a.sizes
 
 -- ---- the words
 
@@ -172,19 +152,13 @@ numbers_with _ _ _ _ _ = None
 abbrev pub numbers_by : List Row → Option Numbers
 numbers_by rows = numbers_with (number_by task rows) (number_by ring rows) (number_by threads rows) (number_by max_lines rows) (number_by slack rows)
 
+-- the sizes that they ask for, and whether the end of the input closes the windows that are begun
+abbrev pub sizes_with : Numbers → Bool → Sizes
+sizes_with n flush = record { task = n.task; ring = n.ring; threads = n.threads; max_lines = n.most; slack = n.slack; flush = flush }
+
 -- a run over these files, with these numbers
 abbrev pub run_over : Text → Text → Option Text → Numbers → Bool → Asked
-run_over query left right n flush = run (record {
-  query = query;
-  left = left;
-  right = right;
-  task = n.task;
-  ring = n.ring;
-  threads = n.threads;
-  most = n.most;
-  slack = n.slack;
-  flush = flush;
-})
+run_over query left right n flush = run (record { query = query; left = left; right = right; sizes = sizes_with n flush })
 
 -- what `run` asks for, by the values of its positionals, the numbers of its options, and whether `--final` was given
 abbrev pub run_with : Option Text → Option Text → Option Text → Option Numbers → Bool → Option Asked
@@ -206,17 +180,7 @@ demo_by found = option_map demo (demo_with (number_by seed found) (number_by row
 
 -- a chain over these files, with these numbers
 abbrev pub chain_over : Text → Text → Text → Option Text → Numbers → Asked
-chain_over first second left right n = chain (record {
-  first = first;
-  second = second;
-  left = left;
-  right = right;
-  task = n.task;
-  ring = n.ring;
-  threads = n.threads;
-  most = n.most;
-  slack = n.slack;
-})
+chain_over first second left right n = chain (record { first = first; second = second; left = left; right = right; sizes = sizes_with n false })
 
 -- what `chain` asks for, by the values of its positionals and the numbers of its options
 abbrev pub chain_with : Option Text → Option Text → Option Text → Option Text → Option Numbers → Option Asked

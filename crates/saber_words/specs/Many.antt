@@ -1,52 +1,35 @@
 -- What `many` asks for, and which words are it.
-use Rattle.std.specs.Prelude.{◌≤◌, ◌^◌, ◌&&◌, nat_le, ℕ, List, [], ◌∷◌, ◌++◌, map, flat_map, length, Bool, false, Option, Some, None, if◌then◌else◌, codes, option_and_then, option_to_list}
+use Rattle.std.specs.Prelude.{◌≤◌, ◌&&◌, nat_le, List, [], ◌∷◌, ◌++◌, map, flat_map, length, Bool, false, Option, Some, None, if◌then◌else◌, codes, option_and_then, option_to_list}
 use Rattle.std.specs.Str.{bytes_eq}
 use Rattle.clap.specs.Walk.{Row, Text, first_of}
 use Rattle.clap.specs.Simple.{App, Shape, new_shape, subcommand_of}
 use Rattle.clap.specs.Faults.{fault_of}
+use Rattle.saber_plan.specs.declared.sizes.Sizes.{Sizes}
+use Rattle.saber_plan.specs.Sizes.{SizesFit}
 use Rattle.saber_words.specs.Numbers.{Numeric, number_by, number_rule}
 use Rattle.saber_words.specs.Flags.{flag_by, flag_rule}
-use Rattle.saber_words.specs.Commands.{Numbers, numbers_with, required_rule, optional, task, ring, max_lines, slack, saber_shape, is_faultless, usual_numbers}
+use Rattle.saber_words.specs.Commands.{Numbers, numbers_with, sizes_with, required_rule, optional, task, ring, max_lines, slack, saber_shape, is_faultless, usual_numbers}
 use Rattle.saber_words.specs.declared.commands.Many.{Many}
 
--- runs of one to eight queries over the rows of one file, each by its name: in tasks of so many rows, on a ring of so many cells, by so many
--- threads for each beside the caller's; over a file of at most so many lines, whose timestamps fall by at most so much, and whether the end of
--- the input closes the windows that are begun
+-- runs of one to eight queries over the rows of one file, each by its name, all in these sizes: the threads are those of each query
 pub record AskedMany : Type 0 where
   pub left : Text
   pub queries : List Text
-  pub task : ℕ
-  pub ring : ℕ
-  pub threads : ℕ
-  pub most : ℕ
-  pub slack : ℕ
-  pub flush : Bool
+  pub sizes : Sizes
 
 abbrev pub asked_many : Many → AskedMany
 asked_many m = record {
   left = m.left.now;
   queries = map (λ query. query.now) m.queries.items;
-  task = m.task;
-  ring = m.ring;
-  threads = m.threads;
-  most = m.max_lines;
-  slack = m.slack;
-  flush = m.flush;
+  sizes = record { task = m.task; ring = m.ring; threads = m.threads; max_lines = m.max_lines; slack = m.slack; flush = m.flush };
 }
 
--- 1 to 8 queries, 1 to 65,536 rows of a task, 1 to 1,024 cells of the ring, at most 8 threads for each query, 1 to 2^40 lines of a file, and
--- timestamps that fall by at most 2^40
+-- 1 to 8 queries, and the sizes of a run with at most 8 threads for each query
 pub record HasManySizes (m : AskedMany) : Type 0 where
   pub some_queries : 1 ≤ length m.queries
   pub few_queries : length m.queries ≤ 8
-  pub some_rows : 1 ≤ m.task
-  pub few_rows : m.task ≤ 65536
-  pub some_cells : 1 ≤ m.ring
-  pub few_cells : m.ring ≤ 1024
-  pub few_threads : m.threads ≤ 8
-  pub some_lines : 1 ≤ m.most
-  pub few_lines : m.most ≤ 2 ^ 40
-  pub small_slack : m.slack ≤ 2 ^ 40
+  pub few_threads : m.sizes.threads ≤ 8
+  pub fit : SizesFit m.sizes
 
 -- ---- the table of commands (this project's rule)
 
@@ -84,16 +67,7 @@ few_numbers_by rows = numbers_with (number_by task rows) (number_by ring rows) (
 
 -- what `many` asks for, by its file, its queries, the numbers of its options, and whether `--final` was given
 abbrev pub many_with : Option Text → List Text → Option Numbers → Bool → Option AskedMany
-many_with (Some left) (query ∷ more) (Some n) flush = Some (record {
-  left = left;
-  queries = query ∷ more;
-  task = n.task;
-  ring = n.ring;
-  threads = n.threads;
-  most = n.most;
-  slack = n.slack;
-  flush = flush;
-})
+many_with (Some left) (query ∷ more) (Some n) flush = Some (record { left = left; queries = query ∷ more; sizes = sizes_with n flush })
 many_with _ _ _ flush = None
 
 abbrev pub many_by : List Row → Option AskedMany
@@ -110,16 +84,7 @@ many_of words = if is_faultless (fault_of many_app words) then option_and_then m
 
 -- these queries over this file, where the words give no option: the end of the input closes nothing
 abbrev pub plain_many : Text → List Text → AskedMany
-plain_many left queries = record {
-  left = left;
-  queries = queries;
-  task = usual_numbers.task;
-  ring = usual_numbers.ring;
-  threads = usual_numbers.threads;
-  most = usual_numbers.most;
-  slack = usual_numbers.slack;
-  flush = false;
-}
+plain_many left queries = record { left = left; queries = queries; sizes = sizes_with usual_numbers false }
 
 -- `many` wants a left file and the files of one to eight queries
 abbrev pub many_of_files : List Text → Option AskedMany

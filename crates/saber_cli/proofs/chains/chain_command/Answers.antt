@@ -8,7 +8,7 @@ use Rattle.saber_plan.specs.declared.ends.RunEnd.{RunEnd}
 use Rattle.saber_chain.specs.Sinks.{seen_of}
 use Rattle.saber_cli.specs.Outcomes.{IsOfChain, IsOfPlans}
 use Rattle.saber_cli.specs.Due.{contents_of, first_run, row_names}
-use Rattle.saber_cli.specs.Chained.{AsksChainRows, ChainsOver, CutTakesChain, HasPlans, HasReason, chain_sizes, not_run}
+use Rattle.saber_cli.specs.Chained.{AsksChainRows, ChainsOver, CutTakesChain, HasPlans, HasReason, not_run}
 use Rattle.saber_cli.specs.Chaining.{ChainedIn, ChainedTold, CutTakes, UsesChainRows}
 use Rattle.saber_cli.proofs.FileLemmas.{keeps_rose}
 use Rattle.saber_cli.proofs.RunLemmas.{some_both, some_map}
@@ -41,20 +41,20 @@ returns-clause-chained g c =
     let w = seen_of g.K.Sink.written g.K.Sink.writes c.args.sink in
     let v = seen_of g.K.Sink.written g.K.Sink.writes c.chain_rows.result.sink in
     let rows : asked_run c.first_run-rows.result ≡ first_run a = c.first_run-rows.ensures in
-    let sizes : c.chain_sizes-sizes.result ≡ chain_sizes a = c.chain_sizes-sizes.ensures.sizes in
+    let sizes : c.chain_sizes-sizes.result ≡ a.sizes = c.chain_sizes-sizes.ensures.sizes in
     let names = row_names (first_run a) in
     let old = told c.args.files.now in
     let mid = told c.chain_plans.new.files in
     let new = told c.chain_rows.new.files in
     let over_rows = subst (λ (r : AskedRun). ChainedTold p q c.chain_sizes-sizes.result (row_names r) mid new w v o tasks) rows c.chain_rows.ensures.runs in
     let over_sizes = subst (λ s. ChainedTold p q s names mid new w v o tasks) sizes over_rows in
-    let leaves : RunEnd → ℕ → Type 0 = CutTakes p (chain_sizes a) names mid new in
-    let runs = read_contents (λ files. ChainedIn p q (chain_sizes a) leaves (contents_of files names) w v o tasks) a.first a.second old mid c.in-Ok.ensures.read over_sizes in
+    let leaves : RunEnd → ℕ → Type 0 = CutTakes p a.sizes names mid new in
+    let runs = read_contents (λ files. ChainedIn p q a.sizes leaves (contents_of files names) w v o tasks) a.first a.second old mid c.in-Ok.ensures.read over_sizes in
     let told_on =
-    some_both (λ (t : FilesView). (e : RunEnd) (n : ℕ) → leaves e n → CutTakesChain a t new p e n) (λ t. ChainedIn p q (chain_sizes a) leaves (contents_of t.contents names) w v o tasks)
-    (λ t. ChainedIn p q (chain_sizes a) (CutTakesChain a t new p) (contents_of t.contents names) w v o tasks) old
-    (λ t f k. chained_on p q (chain_sizes a) leaves (CutTakesChain a t new p) (contents_of t.contents names) w v o tasks f k) (cut_takes a p old mid new c.in-Ok.ensures.read) runs in
-    some_both (λ (t : FilesView). HasPlans t.contents a p q) (λ t. ChainedIn p q (chain_sizes a) (CutTakesChain a t new p) (contents_of t.contents names) w v o tasks) (λ t. ChainsOver t.contents (CutTakesChain a t new) a o tasks w v) old
+    some_both (λ (t : FilesView). (e : RunEnd) (n : ℕ) → leaves e n → CutTakesChain a t new p e n) (λ t. ChainedIn p q a.sizes leaves (contents_of t.contents names) w v o tasks)
+    (λ t. ChainedIn p q a.sizes (CutTakesChain a t new p) (contents_of t.contents names) w v o tasks) old
+    (λ t f k. chained_on p q a.sizes leaves (CutTakesChain a t new p) (contents_of t.contents names) w v o tasks f k) (cut_takes a p old mid new c.in-Ok.ensures.read) runs in
+    some_both (λ (t : FilesView). HasPlans t.contents a p q) (λ t. ChainedIn p q a.sizes (CutTakesChain a t new p) (contents_of t.contents names) w v o tasks) (λ t. ChainsOver t.contents (CutTakesChain a t new) a o tasks w v) old
     (λ t u k. chain_over t.contents (CutTakesChain a t new) a p q o tasks w v u c.in-Ok.ensures.chains c.in-Ok.ensures.like k) c.in-Ok.ensures.plans told_on
 
 pub returns-clause-kinds : goal.returns-clause-kinds

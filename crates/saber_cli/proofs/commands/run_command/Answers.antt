@@ -1,5 +1,6 @@
 use Rattle.std.proofs.Common.{◌≡◌, [], Some, IfSome, length, ◌∙◌, ap, sym, subst}
 use Rattle.saber_io.specs.Outside.{FilesView}
+use Rattle.saber_plan.specs.Sizes.{limits_of}
 use Rattle.saber_plan.specs.Outputs.{appended-none, raised_by}
 use Rattle.saber_check.specs.Texts.{HasPlan}
 use Rattle.saber_words.specs.declared.commands.Command.TheVariants.{Run}
@@ -10,7 +11,8 @@ use Rattle.saber_cli.specs.Answered.{AnsweredIn}
 use Rattle.saber_plan.specs.Trees.{Tree, tree_of}
 use Rattle.saber_cli.specs.Planned.{IsTextFault}
 use Rattle.saber_cli.specs.Gives.{Gives}
-use Rattle.saber_cli.specs.Due.{AsksRows, HasRun, IsLike, contents_of, row_names, asked_limits}
+use Rattle.saber_cli.specs.Leaving.{AsksFile}
+use Rattle.saber_cli.specs.Due.{HasRun, IsLike, contents_of, row_names}
 use Rattle.saber_cli.specs.Taken.{TakesRows, TakesWhole}
 use Rattle.saber_cli.proofs.AnsweredLemmas.{for_any}
 use Rattle.saber_cli.proofs.LeavesLemmas.{query_leaves, refused_leaves, rows_leaves}
@@ -31,7 +33,7 @@ returns-in-Err-clause-written g c =
     ([], appended-none _, for_any (λ (t : FilesView). Gives t.contents (asked_command (Run c.args.command.now)) c.in-Err.outcome 0 []) _ (λ t. gives_no_text t.contents (asked_command (Run c.args.command.now)) tt c.in-Err.outcome c.in-Err.ensures.kinds))
 
 pub returns-in-Err-clause-leaves : goal.returns-in-Err-clause-leaves
-returns-in-Err-clause-leaves g c = query_leaves _ _ (λ t. AsksRows t.contents (run (asked_run c.args.command.now))) c.in-Err.outcome _ _ c.in-Err.ensures.kinds c.in-Err.ensures.uses
+returns-in-Err-clause-leaves g c = query_leaves _ _ (λ t. AsksFile t.contents (run (asked_run c.args.command.now)) 1) c.in-Err.outcome _ _ c.in-Err.ensures.kinds c.in-Err.ensures.uses
 
 pub returns-in-Err-planned-clause-written : goal.returns-in-Err-planned-clause-written
 returns-in-Err-planned-clause-written g c =
@@ -40,7 +42,7 @@ returns-in-Err-planned-clause-written g c =
     ([], appended-none _, some_map (λ (t : FilesView). BeginsFile t.contents r.query c.in-Ok.text.items) (λ t. Gives t.contents (run r) c.in-Err-planned.outcome 0 []) _ (λ t b. gives_text_fault t.contents r c.in-Ok.text.items c.in-Err-planned.outcome b err) c.in-Ok.ensures.front)
 
 pub returns-in-Err-planned-clause-leaves : goal.returns-in-Err-planned-clause-leaves
-returns-in-Err-planned-clause-leaves g c = refused_leaves _ _ (λ t. AsksRows t.contents (run (asked_run c.args.command.now))) c.in-Err-planned.outcome _ _ (text_fault_after _ c.in-Err-planned.outcome c.in-Err-planned.ensures.fault) c.in-Ok.ensures.uses
+returns-in-Err-planned-clause-leaves g c = refused_leaves _ _ (λ t. AsksFile t.contents (run (asked_run c.args.command.now)) 1) c.in-Err-planned.outcome _ _ (text_fault_after _ c.in-Err-planned.outcome c.in-Err-planned.ensures.fault) c.in-Ok.ensures.uses
 
 pub returns-then-streams-given-clause-written : goal.returns-then-streams-given-clause-written
 returns-then-streams-given-clause-written g c =
@@ -68,10 +70,10 @@ returns-clause-written g c =
     let like : IsLike r q = sym (ap length c.streams.ensures.is) ∙ c.if-streams-given.false ∙ c.file_count-given.ensures in (
       w.0,
       w.1,
-      some_both (λ (t : FilesView). BeginsFile t.contents r.query c.in-Ok.text.items) (λ t. AnsweredIn q r.task r.ring (asked_limits r) r.flush (contents_of t.contents (row_names r)) o tasks w.0) (λ t. Gives t.contents (run r) o tasks w.0) _
+      some_both (λ (t : FilesView). BeginsFile t.contents r.query c.in-Ok.text.items) (λ t. AnsweredIn q r.sizes.task r.sizes.ring (limits_of r.sizes) r.sizes.flush (contents_of t.contents (row_names r)) o tasks w.0) (λ t. Gives t.contents (run r) o tasks w.0) _
           (λ t b a. gives_answer t.contents r q o tasks w.0 (run_of t.contents r c.in-Ok.text.items q b ok) like c.run_rows.ensures.kinds a) c.in-Ok.ensures.front
-          (used_contents (λ f. AnsweredIn q r.task r.ring (asked_limits r) r.flush (contents_of f (row_names r)) o tasks w.0) _ _ _ c.in-Ok.ensures.uses
-          (sized (λ n ring m b. IfSome (g.F.Files.told c.query_text.new.files) (λ (t : FilesView). AnsweredIn q n ring m b (contents_of t.contents (row_names r)) o tasks w.0)) _ _ r.task r.ring _ (asked_limits r) _ r.flush z.task z.ring z.limits z.flush w.2)),
+          (used_contents (λ f. AnsweredIn q r.sizes.task r.sizes.ring (limits_of r.sizes) r.sizes.flush (contents_of f (row_names r)) o tasks w.0) _ _ _ c.in-Ok.ensures.uses
+          (sized (λ n ring m b. IfSome (g.F.Files.told c.query_text.new.files) (λ (t : FilesView). AnsweredIn q n ring m b (contents_of t.contents (row_names r)) o tasks w.0)) _ _ r.sizes.task r.sizes.ring _ (limits_of r.sizes) _ r.sizes.flush z.task z.ring z.limits z.flush w.2)),
     )
 
 pub returns-clause-leaves : goal.returns-clause-leaves
@@ -80,7 +82,7 @@ returns-clause-leaves g c =
     let q : Tree = tree_of c.in-Ok-planned.plan in
     let ok : HasPlan c.in-Ok.text.items q = subst (λ t. HasPlan t q) c.deref.ensures.value c.in-Ok-planned.ensures.plan in
     let like : IsLike r q = sym (ap length c.streams.ensures.is) ∙ c.if-streams-given.false ∙ c.file_count-given.ensures in
-    let rows = some_map (λ (t : FilesView). BeginsFile t.contents r.query c.in-Ok.text.items) (λ t. AsksRows t.contents (run r)) (g.F.Files.told c.args.files.now) (λ t b. asks_rows t.contents r q (run_of t.contents r c.in-Ok.text.items q b ok) like) c.in-Ok.ensures.front in
+    let rows = some_map (λ (t : FilesView). BeginsFile t.contents r.query c.in-Ok.text.items) (λ t. AsksFile t.contents (run r) 1) (g.F.Files.told c.args.files.now) (λ t b. asks_rows t.contents r q (run_of t.contents r c.in-Ok.text.items q b ok) like) c.in-Ok.ensures.front in
     rows_leaves r c.run_rows.result.outcome _ _ _ rows c.in-Ok.ensures.uses c.run_rows.ensures.uses
 
 pub returns-clause-taken : goal.returns-clause-taken
@@ -94,7 +96,7 @@ returns-clause-taken g c asked_for e side k =
     let z = c.sizes_of-sizes.ensures in
     let ok : HasPlan c.in-Ok.text.items q = subst (λ t. HasPlan t q) c.deref.ensures.value c.in-Ok-planned.ensures.plan in
     let has = some_map (λ (t : FilesView). BeginsFile t.contents r.query c.in-Ok.text.items) (λ t. HasRun t.contents r q) (told c.args.files.now) (λ t b. run_of t.contents r c.in-Ok.text.items q b ok) c.in-Ok.ensures.front in
-    let rows = sized (λ n ring m b. TakesRows q n m tasks (row_names r) (told c.query_text.new.files) (told c.run_rows.new.files)) _ _ r.task r.ring _ (asked_limits r) _ r.flush z.task z.ring z.limits z.flush (c.run_rows.ensures.taken side k) in
+    let rows = sized (λ n ring m b. TakesRows q n m tasks (row_names r) (told c.query_text.new.files) (told c.run_rows.new.files)) _ _ r.sizes.task r.sizes.ring _ (limits_of r.sizes) _ r.sizes.flush z.task z.ring z.limits z.flush (c.run_rows.ensures.taken side k) in
     subst (λ a. IfSome (told c.args.files.now) (λ (t : FilesView). (u : FilesView) × (told c.run_rows.new.files ≡ Some u) × TakesWhole a tasks t u)) same
     (takes_whole r q tasks (told c.args.files.now) (told c.query_text.new.files) (told c.run_rows.new.files) has c.in-Ok.ensures.uses rows)
 
@@ -129,7 +131,7 @@ returns-clause-writes g c =
     let ok : HasPlan c.in-Ok.text.items q = subst (λ t. HasPlan t q) c.deref.ensures.value c.in-Ok-planned.ensures.plan in
     let rows =
     sized (λ n ring m b. IfSome (told c.query_text.new.files) (λ (t : FilesView). IfSome (contents_of t.contents (row_names r)) (λ all. now ≡ raised_by had (writes_of q n (run_input q b (input_of q m all)) (end_of o) tasks))))
-    _ _ r.task r.ring _ (asked_limits r) _ r.flush z.task z.ring z.limits z.flush c.run_rows.ensures.writes in
+    _ _ r.sizes.task r.sizes.ring _ (limits_of r.sizes) _ r.sizes.flush z.task z.ring z.limits z.flush c.run_rows.ensures.writes in
     let over = used_contents (λ f. IfSome (contents_of f (row_names r)) (λ all. now ≡ raised_by had (run_writes r q all o tasks))) _ _ _ c.in-Ok.ensures.uses rows in
     some_both (λ (t : FilesView). BeginsFile t.contents r.query c.in-Ok.text.items) (λ t. IfSome (contents_of t.contents (row_names r)) (λ all. now ≡ raised_by had (run_writes r q all o tasks)))
     (λ t. (p : Tree) → HasRun t.contents r p → IfSome (contents_of t.contents (row_names r)) (λ all. now ≡ raised_by had (run_writes r p all o tasks))) (told c.args.files.now)

@@ -2,8 +2,10 @@ use Rattle.std.proofs.Common.{sym, subst}
 use Rattle.saber_io.specs.Outside.{FilesView}
 use Rattle.saber_plan.specs.Trees.{Tree, tree_of}
 use Rattle.saber_words.specs.Chain.{AskedChain, asked_chain}
-use Rattle.saber_cli.specs.Chained.{HasReason, IsPlanned}
-use Rattle.saber_cli.specs.ChainLeaves.{LeavesChain}
+use Rattle.saber_cli.specs.Due.{IsPlanned}
+use Rattle.saber_cli.specs.Chained.{HasReason}
+use Rattle.saber_words.specs.Commands.{chain}
+use Rattle.saber_cli.specs.Leaving.{LeavesTold}
 use Rattle.saber_cli.specs.Chaining.{LacksPlan}
 use Rattle.saber_cli.proofs.RunLemmas.{some_both, some_map, used_contents}
 use Rattle.saber_cli.proofs.PlanLemmas.{first_kinds, first_reason, misfit_reason}
@@ -32,7 +34,7 @@ returns-in-Err-query_plan-clause-leaves g c =
     let p : Tree = tree_of c.in-Ok.plan in
     let told = g.F.Files.told in
     let first = some_map (λ (t : FilesView). IsPlanned t.contents a.first p) (λ t. (x : Tree) × IsPlanned t.contents a.first x) (told c.args.files.now) (λ t u. (p, u)) c.in-Ok.ensures.plan in
-    subst (λ x. LeavesChain a x (told c.args.files.now) (told c.query_plan-2.new.files)) (sym c.as_second.ensures) (second_leaves a c.in-Err-query_plan.outcome _ _ _ c.in-Err-query_plan.ensures.kinds first c.in-Ok.ensures.uses c.in-Err-query_plan.ensures.uses)
+    subst (λ x. LeavesTold (chain a) x (told c.args.files.now) (told c.query_plan-2.new.files)) (sym c.as_second.ensures) (second_leaves a c.in-Err-query_plan.outcome _ _ _ c.in-Err-query_plan.ensures.kinds first c.in-Ok.ensures.uses c.in-Err-query_plan.ensures.uses)
 
 -- ---- both
 

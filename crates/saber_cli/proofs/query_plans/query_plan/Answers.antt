@@ -4,7 +4,7 @@ use Rattle.saber_plan.specs.Trees.{Tree, tree_of}
 use Rattle.saber_check.specs.Texts.{HasPlan}
 use Rattle.saber_cli.specs.Texts.{BeginsFile}
 use Rattle.saber_cli.specs.Planned.{IsTextFault}
-use Rattle.saber_cli.specs.Chained.{IsPlanned}
+use Rattle.saber_cli.specs.Due.{IsPlanned}
 use Rattle.saber_cli.specs.Chaining.{LacksPlan}
 use Rattle.saber_cli.proofs.AnsweredLemmas.{for_any}
 use Rattle.saber_cli.proofs.RunLemmas.{some_map}

@@ -1,4 +1,4 @@
-use Rattle.std.proofs.Common.{subst}
+use Rattle.std.proofs.Common.{subst, arith}
 use Rattle.saber_cli.specs.Puts.{PutsText}
 use Rattle.saber_cli.proofs.ShowLemmas.{put_showed}
 use Rattle.saber_cli.specs.Planned.{IsTextFault}
@@ -13,3 +13,6 @@ returns-clause-written g c =
 
 pub returns-in-Err-clause-writes : goal.returns-in-Err-clause-writes
 returns-in-Err-clause-writes g c = no_text_written c.in-Err.outcome _ (λ e. subst (IsTextFault _) e c.in-Err.ensures.err) (λ e. subst (IsTextFault _) e c.in-Err.ensures.err)
+
+pub returns-clause-tasks : goal.returns-clause-tasks
+returns-clause-tasks g c = omega (arith, c.put.ensures.few)

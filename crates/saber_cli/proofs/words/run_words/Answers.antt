@@ -10,12 +10,10 @@ use Rattle.saber_chain.specs.Sinks.{seen_of}
 use Rattle.saber_cli.specs.Gives.{Gives, Answers}
 use Rattle.saber_cli.specs.Tells.{TellsRun}
 use Rattle.saber_cli.specs.Outcomes.{IsOfSecond}
-use Rattle.saber_cli.specs.Due.{IsPlain}
 use Rattle.saber_cli.specs.Chained.{AnswersChain}
-use Rattle.saber_cli.specs.Leaves.{LeavesTold}
-use Rattle.saber_cli.specs.ChainLeaves.{LeavesChain}
+use Rattle.saber_cli.specs.Leaving.{LeavesTold}
 use Rattle.saber_cli.proofs.PlanLemmas.{put_alone}
-use Rattle.saber_cli.proofs.ChainRunLemmas.{unread_alone, unread_chained, unread_leaves}
+use Rattle.saber_cli.proofs.ChainRunLemmas.{unread_alone, unread_chained}
 use Rattle.saber_cli.proofs.AnsweredLemmas.{for_any}
 use Rattle.saber_cli.proofs.RunLemmas.{some_map}
 use Rattle.saber_cli.proofs.WordLemmas.{answers_of, unread_answers, unread_leave, unread_not_read}
@@ -90,8 +88,24 @@ returns-in-Demo-clause-written g c =
     let is : command_of ws ≡ Some (demo d) = c.in-Ok.ensures.taken ∙ ap (λ (k : Command). Some (asked_command k)) c.in-Demo.is in
     (t.out, t.written, λ n. for_any (λ (x : FilesView). Answers ws x.contents o tasks t.out) _ (λ x. answers_of ws x.contents (demo d) o tasks t.out is (gives_told x.contents d o tasks t.out t.kinds t.puts t.tasks_are)))
 
+pub returns-in-Run-clause-leaves : goal.returns-in-Run-clause-leaves
+returns-in-Run-clause-leaves g c a e =
+    let ws : List (List ℕ) = map (λ (word : Bor (List ℕ)). word.now) c.args.words.now in
+    let is : command_of ws ≡ Some (asked_command (Run c.in-Run.run')) = c.in-Ok.ensures.taken ∙ ap (λ (k : Command). Some (asked_command k)) c.in-Run.is in
+    let both : Some (asked_command (Run c.in-Run.run')) ≡ Some a = sym is ∙ e in
+    let same : asked_command (Run c.in-Run.run') ≡ a = cc in
+    subst (λ x. LeavesTold x c.run_command.result.outcome (g.F.Files.told c.args.files.now) (g.F.Files.told c.run_command.new.files)) same c.run_command.ensures.leaves
+
+pub returns-in-Check-clause-leaves : goal.returns-in-Check-clause-leaves
+returns-in-Check-clause-leaves g c a e =
+    let ws : List (List ℕ) = map (λ (word : Bor (List ℕ)). word.now) c.args.words.now in
+    let is : command_of ws ≡ Some (asked_command (Check c.in-Check.check)) = c.in-Ok.ensures.taken ∙ ap (λ (k : Command). Some (asked_command k)) c.in-Check.is in
+    let both : Some (asked_command (Check c.in-Check.check)) ≡ Some a = sym is ∙ e in
+    let same : asked_command (Check c.in-Check.check) ≡ a = cc in
+    subst (λ x. LeavesTold x c.check_command.result.outcome (g.F.Files.told c.args.files.now) (g.F.Files.told c.check_command.new.files)) same c.check_command.ensures.leaves
+
 pub returns-in-Demo-clause-leaves : goal.returns-in-Demo-clause-leaves
-returns-in-Demo-clause-leaves g c a e n =
+returns-in-Demo-clause-leaves g c a e =
     let ws : List (List ℕ) = map (λ (word : Bor (List ℕ)). word.now) c.args.words.now in
     let d = asked_demo c.in-Demo.demo in
     let is : command_of ws ≡ Some (demo d) = c.in-Ok.ensures.taken ∙ ap (λ (k : Command). Some (asked_command k)) c.in-Demo.is in
@@ -109,16 +123,10 @@ returns-in-Err-clause-chained g c a is =
     subst (λ o. AnswersChain a o 0 told told w w) (sym c.unread.ensures) (unread_chained ws a c.in-Err.fault told told w (λ e. c.in-Err.ensures.usage (ap Err e)) is)
 
 pub returns-in-Err-clause-leaves : goal.returns-in-Err-clause-leaves
-returns-in-Err-clause-leaves g c a is n =
+returns-in-Err-clause-leaves g c a is =
     let ws : List (List ℕ) = map (λ (word : Bor (List ℕ)). word.now) c.args.words.now in
     let told = g.F.Files.told c.args.files.now in
     subst (λ o. LeavesTold a o told told) (sym c.unread.ensures) (unread_leave ws a c.in-Err.fault told (λ e. c.in-Err.ensures.usage (ap Err e)) is)
-
-pub returns-in-Err-clause-leaves_chain : goal.returns-in-Err-clause-leaves_chain
-returns-in-Err-clause-leaves_chain g c a is =
-    let ws : List (List ℕ) = map (λ (word : Bor (List ℕ)). word.now) c.args.words.now in
-    let told = g.F.Files.told c.args.files.now in
-    subst (λ o. LeavesChain a o told told) (sym c.unread.ensures) (unread_leaves ws a c.in-Err.fault told (λ e. c.in-Err.ensures.usage (ap Err e)) is)
 
 pub returns-in-Err-clause-second : goal.returns-in-Err-clause-second
 returns-in-Err-clause-second g c k = absurd (unread_alone c.in-Err.fault (subst IsOfSecond c.unread.ensures k))
@@ -152,33 +160,24 @@ returns-in-Chain-clause-chained g c a e =
     let same : b ≡ a = cc in
     subst (λ x. AnswersChain x c.chain_command.result.outcome c.chain_command.result.tasks (g.F.Files.told c.args.files.now) (g.F.Files.told c.chain_command.new.files) (seen_of g.K.Sink.written g.K.Sink.writes c.args.sink) (seen_of g.K.Sink.written g.K.Sink.writes c.chain_command.result.sink)) same c.chain_command.ensures.chained
 
-pub returns-in-Chain-clause-leaves_chain : goal.returns-in-Chain-clause-leaves_chain
-returns-in-Chain-clause-leaves_chain g c a e =
-    let ws : List (List ℕ) = map (λ (word : Bor (List ℕ)). word.now) c.args.words.now in
-    let b = asked_chain c.in-Chain.chain in
-    let is : command_of ws ≡ Some (chain b) = c.in-Ok.ensures.taken ∙ ap (λ (x : Command). Some (asked_command x)) c.in-Chain.is in
-    let both : Some (chain b) ≡ Some (chain a) = sym is ∙ e in
-    let same : b ≡ a = cc in
-    subst (λ x. LeavesChain x c.chain_command.result.outcome (g.F.Files.told c.args.files.now) (g.F.Files.told c.chain_command.new.files)) same c.chain_command.ensures.leaves
-
 pub returns-in-Chain-clause-leaves : goal.returns-in-Chain-clause-leaves
-returns-in-Chain-clause-leaves g c a e n =
+returns-in-Chain-clause-leaves g c a e =
     let ws : List (List ℕ) = map (λ (word : Bor (List ℕ)). word.now) c.args.words.now in
     let b = asked_chain c.in-Chain.chain in
     let is : command_of ws ≡ Some (chain b) = c.in-Ok.ensures.taken ∙ ap (λ (x : Command). Some (asked_command x)) c.in-Chain.is in
-    let both : Some a ≡ Some (chain b) = sym e ∙ is in
-    let same : a ≡ chain b = cc in
-    absurd (subst IsPlain same n)
+    let both : Some (chain b) ≡ Some a = sym is ∙ e in
+    let same : chain b ≡ a = cc in
+    subst (λ x. LeavesTold x c.chain_command.result.outcome (g.F.Files.told c.args.files.now) (g.F.Files.told c.chain_command.new.files)) same c.chain_command.ensures.leaves
 
 pub returns-in-Err-clause-writes : goal.returns-in-Err-clause-writes
-returns-in-Err-clause-writes g c a is n =
+returns-in-Err-clause-writes g c a is =
     let ws : List (List ℕ) = map (λ (word : Bor (List ℕ)). word.now) c.args.words.now in
     let told = g.F.Files.told c.args.files.now in
     let had = g.K.Sink.writes c.args.sink in
     subst (λ o. WritesTold a told o 0 had had) (sym c.unread.ensures) (unread_unwritten ws a c.in-Err.fault told had (λ e. c.in-Err.ensures.usage (ap Err e)) is)
 
 pub returns-in-Run-clause-writes : goal.returns-in-Run-clause-writes
-returns-in-Run-clause-writes g c a e n =
+returns-in-Run-clause-writes g c a e =
     let ws : List (List ℕ) = map (λ (word : Bor (List ℕ)). word.now) c.args.words.now in
     let is : command_of ws ≡ Some (asked_command (Run c.in-Run.run')) = c.in-Ok.ensures.taken ∙ ap (λ (k : Command). Some (asked_command k)) c.in-Run.is in
     let both : Some (asked_command (Run c.in-Run.run')) ≡ Some a = sym is ∙ e in
@@ -186,7 +185,7 @@ returns-in-Run-clause-writes g c a e n =
     subst (λ x. WritesTold x (g.F.Files.told c.args.files.now) c.run_command.result.outcome c.run_command.result.tasks (g.K.Sink.writes c.args.sink) (g.K.Sink.writes c.run_command.result.sink)) same c.run_command.ensures.writes
 
 pub returns-in-Check-clause-writes : goal.returns-in-Check-clause-writes
-returns-in-Check-clause-writes g c a e n =
+returns-in-Check-clause-writes g c a e =
     let ws : List (List ℕ) = map (λ (word : Bor (List ℕ)). word.now) c.args.words.now in
     let is : command_of ws ≡ Some (asked_command (Check c.in-Check.check)) = c.in-Ok.ensures.taken ∙ ap (λ (k : Command). Some (asked_command k)) c.in-Check.is in
     let both : Some (asked_command (Check c.in-Check.check)) ≡ Some a = sym is ∙ e in
@@ -194,7 +193,7 @@ returns-in-Check-clause-writes g c a e n =
     subst (λ x. WritesTold x (g.F.Files.told c.args.files.now) c.check_command.result.outcome c.check_command.result.tasks (g.K.Sink.writes c.args.sink) (g.K.Sink.writes c.check_command.result.sink)) same c.check_command.ensures.writes
 
 pub returns-in-Demo-clause-writes : goal.returns-in-Demo-clause-writes
-returns-in-Demo-clause-writes g c a e n =
+returns-in-Demo-clause-writes g c a e =
     let ws : List (List ℕ) = map (λ (word : Bor (List ℕ)). word.now) c.args.words.now in
     let d = asked_demo c.in-Demo.demo in
     let is : command_of ws ≡ Some (demo d) = c.in-Ok.ensures.taken ∙ ap (λ (k : Command). Some (asked_command k)) c.in-Demo.is in
@@ -203,10 +202,10 @@ returns-in-Demo-clause-writes g c a e n =
     subst (λ x. WritesTold x (g.F.Files.told c.args.files.now) c.demo_command.result.outcome c.demo_command.result.tasks (g.K.Sink.writes c.args.sink) (g.K.Sink.writes c.demo_command.result.sink)) same c.demo_command.ensures.writes
 
 pub returns-in-Chain-clause-writes : goal.returns-in-Chain-clause-writes
-returns-in-Chain-clause-writes g c a e n =
+returns-in-Chain-clause-writes g c a e =
     let ws : List (List ℕ) = map (λ (word : Bor (List ℕ)). word.now) c.args.words.now in
     let b = asked_chain c.in-Chain.chain in
     let is : command_of ws ≡ Some (chain b) = c.in-Ok.ensures.taken ∙ ap (λ (x : Command). Some (asked_command x)) c.in-Chain.is in
-    let both : Some a ≡ Some (chain b) = sym e ∙ is in
-    let same : a ≡ chain b = cc in
-    absurd (subst IsPlain same n)
+    let both : Some (chain b) ≡ Some a = sym is ∙ e in
+    let same : chain b ≡ a = cc in
+    subst (λ x. WritesTold x (g.F.Files.told c.args.files.now) c.chain_command.result.outcome c.chain_command.result.tasks (g.K.Sink.writes c.args.sink) (g.K.Sink.writes c.chain_command.result.sink)) same tt

@@ -2,7 +2,7 @@ use Rattle.std.proofs.Common.{◌≡◌, refl, sym, ◌∙◌, subst}
 use Rattle.std.specs.Prelude.{true, false}
 use Rattle.saber_notes.specs.declared.early.Early.TheVariants.{Usage}
 use Rattle.saber_top.specs.declared.ended.TopEnd.TheVariants.{One, Before}
-use Rattle.saber_top.specs.Comes.{TellsNotes}
+use Rattle.saber_notes.specs.Told.{TellsNotes}
 use Rattle.saber_top.specs.Ends.{EndsBy, IsCreateEnd, top_notes}
 use Rattle.saber_top.specs.Shared.{outcomes_of, parts_in}
 use Rattle.saber_top.proofs.call.top.Goals as goal

@@ -6,7 +6,7 @@ use Rattle.saber_cli.specs.Outcomes.{IsClean, IsFileFault}
 use Rattle.saber_plan.specs.Trees.{tree_of}
 use Rattle.saber_words.specs.Many.{AskedMany, asked_many}
 use Rattle.saber_top.specs.declared.ended.TopEnd.TheVariants.{Before, Each}
-use Rattle.saber_top.specs.Commands.{many_sizes, out_names}
+use Rattle.saber_top.specs.Commands.{out_names}
 use Rattle.saber_top.specs.Ends.{IsCreateEnd}
 use Rattle.saber_top.specs.Made.{EarlyMade, MadeFirst, naming_all}
 use Rattle.saber_top.specs.ManyLeaves.{AllRead, LeftAlone, LeftRan, RanFits, EarlyFits, SharedFits, UsesFirst}
@@ -62,15 +62,15 @@ returns-in-Ok-run_left-clause-parts g c =
     let failed = g.U.Out.Sink.faults in
     let made = g.U.Out.Sink.writes in
     let parts = parts_in c.in-Ok-run_left.parts in
-    let sizes : c.sizes_of-sizes.result ≡ many_sizes m = c.sizes_of-sizes.ensures.sizes in
+    let sizes : c.sizes_of-sizes.result ≡ m.sizes = c.sizes_of-sizes.ensures.sizes in
     let same : c.deref-2.result.now ≡ plans = c.deref-2.ensures.value in
     let over_sizes = subst (λ s. AllZip (λ plan part. RunsOver written failed made (tree_of plan) s m.left mid new part) c.deref-2.result.now parts) sizes c.in-Ok-run_left.ensures.parts in
-    let over = subst (λ x. AllZip (λ plan part. RunsOver written failed made (tree_of plan) (many_sizes m) m.left mid new part) x parts) same over_sizes in
+    let over = subst (λ x. AllZip (λ plan part. RunsOver written failed made (tree_of plan) m.sizes m.left mid new part) x parts) same over_sizes in
     let many : length plans ≡ length m.queries = subst (λ x. length plans ≡ length x) names c.in-Ok.ensures.many in
     let n = length m.queries in
     record {
       early = tt;
-      each = λ _. zip_long (λ plan part. RunsOver written failed made (tree_of plan) (many_sizes m) m.left mid new part) plans parts over ∙ many;
+      each = λ _. zip_long (λ plan part. RunsOver written failed made (tree_of plan) m.sizes m.left mid new part) plans parts over ∙ many;
       answers = λ _. answers_told written failed made m old mid new plans parts planned c.in-Ok.ensures.share read c.in-Ok-run_left.ensures.there over;
       taken = λ _. takes_told written failed made m old mid new plans parts planned many read over;
       leaves = tt;
@@ -96,10 +96,10 @@ returns-in-Ok-run_left-clause-parts_true g c =
     let failed = g.U.Out.Sink.faults in
     let made = g.U.Out.Sink.writes in
     let parts = parts_in c.in-Ok-run_left.parts in
-    let sizes : c.sizes_of-sizes.result ≡ many_sizes m = c.sizes_of-sizes.ensures.sizes in
+    let sizes : c.sizes_of-sizes.result ≡ m.sizes = c.sizes_of-sizes.ensures.sizes in
     let same : c.deref-2.result.now ≡ plans = c.deref-2.ensures.value in
     let over_sizes = subst (λ s. AllZip (λ plan part. RunsOver written failed made (tree_of plan) s m.left mid new part) c.deref-2.result.now parts) sizes c.in-Ok-run_left.ensures.parts in
-    let over = subst (λ x. AllZip (λ plan part. RunsOver written failed made (tree_of plan) (many_sizes m) m.left mid new part) x parts) same over_sizes in
+    let over = subst (λ x. AllZip (λ plan part. RunsOver written failed made (tree_of plan) m.sizes m.left mid new part) x parts) same over_sizes in
     let faults = g.F.Files.faults in
     let now = faults c.run_left.new.files in
     let good : faults c.shared_plans.new.files ≡ faults c.args.files.now = c.in-Ok.ensures.good in

@@ -3,7 +3,7 @@ use Rattle.saber_io.specs.Outside.{FilesView}
 use Rattle.saber_plan.specs.declared.plans.Plan.{Plan}
 use Rattle.saber_plan.specs.Trees.{tree_of}
 use Rattle.saber_notes.specs.declared.early.Early.TheVariants.{NoMemory}
-use Rattle.saber_cli.specs.Chained.{IsPlanned}
+use Rattle.saber_cli.specs.Due.{IsPlanned}
 use Rattle.saber_cli.specs.Chaining.{LacksPlan}
 use Rattle.saber_top.specs.Queries.{ArePlanned, LackPlans, as_early}
 use Rattle.saber_top.specs.ManyLeaves.{AllRead, LackFits, UsesFirst}

@@ -2,7 +2,7 @@ use Rattle.std.proofs.Common.{◌≡◌, ◌∙◌, ◌++◌, sym, ap, subst}
 use Rattle.saber_plan.specs.Outputs.{AppendsPrefix, appended_text}
 use Rattle.saber_notes.specs.ManyNotes.{early_note, early_status, first_status, lines_from, query_lines}
 use Rattle.saber_notes.specs.Reports.{notes_in}
-use Rattle.saber_top.specs.Comes.{TellsNotes}
+use Rattle.saber_notes.specs.Told.{TellsNotes}
 use Rattle.saber_top.specs.Ends.{top_notes, top_status}
 use Rattle.saber_top.specs.Shared.{outcomes_of, parts_in}
 use Rattle.saber_top.proofs.TellLemmas.{early_some, quiet, loud}
@@ -22,6 +22,7 @@ returns-in-Before g c =
       note = says.cause;
       note_good = says.good;
       one = λ _. says.one;
+      none = says.none;
     } in
     subst (λ x. TellsNotes g.N.Sink.written g.N.Sink.faults g.N.Sink.writes c.args.notes.now c.write_early.new.notes (top_status x os) c.write_early.result (top_notes x os)) (sym c.in-Before.is) tells
 
@@ -42,5 +43,6 @@ returns-in-Each g c =
       note = says.cause;
       note_good = says.good;
       one = λ n. says.one (λ w. says.something (λ e. loud 1 os n (sym text ∙ e)) w);
+      none = says.none;
     } in
     subst (λ x. TellsNotes g.N.Sink.written g.N.Sink.faults g.N.Sink.writes c.args.notes.now c.write.new.notes (top_status x os) c.write.result (top_notes x os)) (sym c.in-Each.is) tells
