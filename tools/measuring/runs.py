@@ -4,7 +4,9 @@ import os
 import random
 import re
 import shutil
+import signal
 import subprocess
+import threading
 import time
 
 import queries
@@ -119,12 +121,13 @@ class Runner:
         return most / 1024
 
     def wait(self, process, words):
-        try:
-            status = process.wait(timeout=self.clock.left())
-        except (subprocess.TimeoutExpired, Late):
-            process.kill()
-            process.wait()
-            raise Late() from None
+        """Waits for the end of a run, which is killed where no time is left. (A wait with a timeout looks again only each 50 ms.)"""
+        late = threading.Timer(min(max(self.clock.ends - time.monotonic(), 0), MOST), process.kill)
+        late.start()
+        status = process.wait()
+        late.cancel()
+        if status == -signal.SIGKILL:
+            raise Late()
         if status:
             raise SystemExit(f"measure: {' '.join(words)[:200]}: status {status}")
 

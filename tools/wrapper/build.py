@@ -47,7 +47,7 @@ def compiled(wanted, kit_name, seen):
         told = str(why).strip() or type(why).__name__
         with open(LOG, "w", encoding="utf-8", errors="replace") as log:
             log.write(f"{told}\n")
-        places.say(f"that failed ({told.splitlines()[0][:100]}, see {LOG}): all is proved and built instead, in twenty to forty minutes")
+        places.say(f"that failed ({told.splitlines()[0][:100]}, see {LOG}): all is proved and built instead, in twenty to fifty minutes")
         with builds.alone("proved"):
             return prove.prove(wanted, kit_name, seen)
 
