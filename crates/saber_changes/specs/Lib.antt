@@ -3,3 +3,5 @@ pub mod Rising
 pub mod Spans
 pub mod Walks
 pub mod WalkFacts
+pub mod Outputs
+pub mod OutputFacts

@@ -5,7 +5,8 @@
 //!
 //! - Parts: `answers` (`Answers`, of one window), `counts` and `cancel` (the lines of two windows
 //!   cancel one by one: those of one are counted in a map, those of the other take from it),
-//!   `rising` (the same in one walk over both, where the lines of both rise), `walk` (`Walk`).
+//!   `rising` (the same in one walk over both, where the lines of both rise), `walk` (`Walk`),
+//!   `output` (`Output`: what is printed of closed windows, lines or changes).
 //! - Calls: `Walk::pass` takes the answers of a window, `Walk::reach` passes windows without any;
 //!   both append what the windows passed gain, or lose (`Change`).
 //! - Proved: for any answers by window, the text grows by the lines of the bag differences of the
@@ -20,9 +21,11 @@
 mod answers;
 mod cancel;
 mod counts;
+mod output;
 mod rising;
 mod walk;
 
 pub use answers::Answers;
 pub use cancel::Change;
+pub use output::Output;
 pub use walk::Walk;

@@ -15,5 +15,5 @@ way_by ByList = defined.by_list
 way_by (Changing change) = defined.by_change (change_of change)
 
 -- the plan of an operator, of whichever kind
-abbrev pub tree_by : OneOf (OneOf (OneOf Plan (OneOf Plan Plan)) (OneOf Plan (OneOf Plan Plan))) (OneOf Plan Plan) → Tree
-tree_by op = of_one (of_one (of_one tree_of (of_one tree_of tree_of)) (of_one tree_of (of_one tree_of tree_of))) (of_one tree_of tree_of) op
+abbrev pub tree_by : OneOf (OneOf (OneOf Plan Plan) (OneOf Plan Plan)) Plan → Tree
+tree_by op = of_one (of_one (of_one tree_of tree_of) (of_one tree_of tree_of)) tree_of op

@@ -11,48 +11,42 @@ ghost use Rattle.saber_engine.specs.Ways.{tree_by};
 use crate::jobs::Job;
 use crate::ways::{Way, way_of};
 use saber_either::OneOf;
-use saber_group::{GroupChanges, GroupOperator};
-use saber_join::{JoinChanges, JoinOperator};
+use saber_group::GroupOperator;
+use saber_join::JoinOperator;
 use saber_partition::Partition;
 use saber_plan::{NoMemory, Plan, Shape};
 use saber_select::Select;
-use saber_windowed::{WindowedChanges, WindowedOperator};
+use saber_windowed::WindowedOperator;
 use std::alloc::Global;
 use std::collections::VecDeque;
 
-/// That of a selection under a stream word.
-type Windowed<'p> = OneOf<WindowedOperator<'p>, WindowedChanges<'p>>;
-
 /// That of a selection.
-type Selection<'p> = OneOf<Select<'p>, Windowed<'p>>;
+type Selection<'p> = OneOf<Select<'p>, WindowedOperator<'p>>;
 
 /// That of a group query.
-type Grouping<'p> = OneOf<Partition<'p>, OneOf<GroupOperator<'p>, GroupChanges<'p>>>;
-
-/// That of a join.
-type Joining<'p> = OneOf<JoinOperator<'p>, JoinChanges<'p>>;
+type Grouping<'p> = OneOf<Partition<'p>, GroupOperator<'p>>;
 
 /// The one type of operators that are run: ring, workers and crew are compiled for it once, and
 /// once it is shown that they may be sent and shared.
-pub(crate) type AnyOperator<'p> = OneOf<OneOf<Selection<'p>, Grouping<'p>>, Joining<'p>>;
+pub(crate) type AnyOperator<'p> = OneOf<OneOf<Selection<'p>, Grouping<'p>>, JoinOperator<'p>>;
 
 // The operator of a selection under a stream word.
-fn windowed_of(plan: &Plan) -> Windowed<'_>
+fn windowed_of(plan: &Plan) -> WindowedOperator<'_>
     requires select { (tree_of plan.now).shape ≡ shapes.Select }
     requires word { IsSome (tree_of plan.now).word }
-    ensures { of_one tree_of tree_of result ≡ tree_of plan.now }
+    ensures { tree_of result ≡ tree_of plan.now }
 {
     match way_of(plan) {
-        Way::Alike => OneOf::First(WindowedOperator::new(plan)),
+        Way::Alike => WindowedOperator::new(plan),
         Way::ByList => unreachable!(),
-        Way::Changing(change) => OneOf::Second(WindowedChanges::new(plan, change)),
+        Way::Changing(change) => WindowedOperator::changing(plan, change),
     }
 }
 
 // The operator of a selection.
 fn selection_of(plan: &Plan) -> Selection<'_>
     requires select { (tree_of plan.now).shape ≡ shapes.Select }
-    ensures { of_one tree_of (of_one tree_of tree_of) result ≡ tree_of plan.now }
+    ensures { of_one tree_of tree_of result ≡ tree_of plan.now }
 {
     match plan.word() {
         None => OneOf::First(Select::new(plan)),
@@ -63,24 +57,24 @@ fn selection_of(plan: &Plan) -> Selection<'_>
 // The operator of a group query.
 fn grouping_of(plan: &Plan) -> Grouping<'_>
     requires group { (tree_of plan.now).shape ≡ shapes.Group }
-    ensures { of_one tree_of (of_one tree_of tree_of) result ≡ tree_of plan.now }
+    ensures { of_one tree_of tree_of result ≡ tree_of plan.now }
 {
     match way_of(plan) {
-        Way::Alike => OneOf::Second(OneOf::First(GroupOperator::new(plan))),
+        Way::Alike => OneOf::Second(GroupOperator::new(plan)),
         Way::ByList => OneOf::First(Partition::new(plan)),
-        Way::Changing(change) => OneOf::Second(OneOf::Second(GroupChanges::new(plan, change))),
+        Way::Changing(change) => OneOf::Second(GroupOperator::changing(plan, change)),
     }
 }
 
 // The operator of a join.
-fn joining_of(plan: &Plan) -> Joining<'_>
+fn joining_of(plan: &Plan) -> JoinOperator<'_>
     requires join { (tree_of plan.now).shape ≡ shapes.Join }
-    ensures { of_one tree_of tree_of result ≡ tree_of plan.now }
+    ensures { tree_of result ≡ tree_of plan.now }
 {
     match way_of(plan) {
-        Way::Alike => OneOf::First(JoinOperator::new(plan)),
+        Way::Alike => JoinOperator::new(plan),
         Way::ByList => unreachable!(),
-        Way::Changing(change) => OneOf::Second(JoinChanges::new(plan, change)),
+        Way::Changing(change) => JoinOperator::changing(plan, change),
     }
 }
 

@@ -15,7 +15,10 @@ use Rattle.saber_plan.specs.Facts.Numbers.{flat_map-from}
 use Rattle.saber_fragment.specs.declared.blocks.Earlier.{Earlier}
 use Rattle.saber_fragment.specs.Drafts.{EndWith}
 use Rattle.saber_partial.specs.PartLaws.{OfRows}
+use Rattle.saber_changes.specs.declared.output.Output.{Output}
+use Rattle.saber_changes.specs.declared.output.Output.TheVariants.{Each}
 use Rattle.saber_sliding.specs.Entries.{Entries}
+use Rattle.saber_changes.specs.OutputFacts.{printed_lines}
 use Rattle.saber_sliding.specs.EntryFacts.{all_map}
 use Rattle.saber_group.specs.declared.complete.Complete.{Complete}
 use Rattle.saber_group.specs.declared.slices.Slice.{Slice}
@@ -130,8 +133,8 @@ module _ (q : Tree) (e : Earlier) (m : Mark) (rows : List Row) (ended : Bool) (m
       -- what the task answers is right behind them
       pub is_complete : m ≡ mark_of old → (low high : ℕ) (c : Complete) (rs : List Slice) (k : ℕ) (closing : List Slice) (next : ℕ) (out : List ℕ) → out ≡ [] → low ≤ high → high ≡ closed_count (frame q) (end_mark ended (mark_after m rows))
           → low ≡ max (begun_count (frame q) e.before) (closed_count (frame q) m) → c.low ≡ low → next ≡ low → SlicesFrom q m rows 0 rs → closing ≡ take k rs → AllByRecursion (λ (r : Slice). r.first ≤ low) (take k rs)
-          → ((r : Slice) → Some r ≡ slice_get rs k → low ≤ r.first) → WentOn q e.before (e.rows ++ rows) (length e.rows + length rows) next c.open.slices.entries high c.open.next out c.text.items → IsComplete q old rows ended closing c
-      is_complete same low high c rs k closing next out empty up most least low_is next_is slices copies firsts first w =
+          → ((r : Slice) → Some r ≡ slice_get rs k → low ≤ r.first) → (output : Output) → WentOn q e.before (e.rows ++ rows) (length e.rows + length rows) next c.open.slices.entries high c.open.next Each output out c.text.items → IsComplete q old rows ended closing c
+      is_complete same low high c rs k closing next out empty up most least low_is next_is slices copies firsts first output w =
           let all = e.rows ++ rows in
           let begun : begun_count (frame q) e.before ≤ low = omega (arith, least) in
           let own : SlicesFrom q (mark_of old) rows 0 rs = subst (λ z. SlicesFrom q z rows 0 rs) same slices in
@@ -143,7 +146,7 @@ module _ (q : Tree) (e : Earlier) (m : Mark) (rows : List Row) (ended : Bool) (m
             closing_are = subst (λ l. SlicesTo q (mark_of old) rows 0 l (begins_at 0 rs k)) (sym copies) (slices_front q (mark_of old) rows 0 rs (length rows) k own);
             firsts = subst₂ (λ n l. AllByRecursion (λ (r : Slice). r.first ≤ n) l) (sym low_is) (sym copies) firsts;
             below = subst (Settled q (mark_of old) (take (begins_at 0 rs k) rows) rows) (sym low_is) (settled_at q (mark_of old) rows low 0 rs k own first);
-            text_is = w.text ∙ (λ j. empty j ++ lines_between q e.before all (next_is j) high) ∙ own_text low high begun ∙ sym (λ j. lines_between q no_rows (old ++ rows) (low_is j) (done j));
+            text_is = w.passed.text ∙ ap (λ l. out ++ l) (sym (printed_lines q (λ i. part_of q i e.before all) next high)) ∙ (λ j. empty j ++ lines_between q e.before all (next_is j) high) ∙ own_text low high begun ∙ sym (λ j. lines_between q no_rows (old ++ rows) (low_is j) (done j));
             open_is = subst (λ n. Holds q no_rows (old ++ rows) n c.open.slices.entries) (sym done) (own_open high c.open.slices.entries (omega (arith, begun, up)) contents);
             closed_is = subst₂ (λ z n. closed_count (frame q) z ≤ n) same (sym low_is) (omega (arith, least));
             high_is = done ∙ most ∙ ap (λ z. closed_count (frame q) (end_mark ended (mark_after z rows))) same;

@@ -9,6 +9,5 @@ pub mod Running
 pub mod SlicesTaken
 pub mod PiecesTaken
 pub mod SliceKeeping
-pub mod Walked
-pub mod WalkKeeping
+pub mod Keeping
 pub mod Making

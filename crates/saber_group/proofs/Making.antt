@@ -1,15 +1,15 @@
 -- The piece of a task's own block is that of the arrivals that its rows are.
-use Rattle.std.proofs.Common.{◌≡◌, ℕ, ◌++◌, take, slice_range, Result, Ok, Err, IfOk, sym, ◌∙◌, ap, subst}
+use Rattle.std.proofs.Common.{◌≡◌, ℕ, ◌++◌, take, slice_range, Option, Some, None, Result, Ok, Err, IfOk, sym, ◌∙◌, ap, subst}
 use Rattle.saber_plan.specs.Inputs.{Input}
 use Rattle.saber_plan.specs.Trees.{Tree}
 use Rattle.saber_plan.specs.Windows.{no_rows, mark_of, mark_after, end_mark}
 use Rattle.saber_plan.specs.GivenRows.{RowsFit}
+use Rattle.saber_plan.specs.Answers.{alike, way}
 use Rattle.saber_plan.specs.Facts.Rows.{fits_take}
 use Rattle.saber_fragment.specs.Drafts.{Sight, IsSightOf}
 use Rattle.saber_group.specs.declared.slice_pieces.SlicePiece.{SlicePiece}
-use Rattle.saber_group.specs.declared.change_pieces.TaskSlices.{TaskSlices}
-use Rattle.saber_group.specs.SlicePieces.{Given, SlicesFrom, IsMade, IsOf}
-use Rattle.saber_group.specs.ChangeStores.{piece_of}
+use Rattle.saber_group.specs.declared.complete.Complete.{Complete}
+use Rattle.saber_group.specs.SlicePieces.{Given, Gives, SlicesFrom, IsMade, IsOf}
 use Rattle.saber_group.proofs.SliceKeeping.{rows_upto}
 use Rattle.saber_laws.proofs.EndLaws.{marks_follow}
 
@@ -22,11 +22,26 @@ piece_is_of q s r x y p made sight =
       opens = sight.opens;
       given = subst (λ b. Given q old (slice_range r.rows x y) b p.slices.items p.complete) sight.ended_is
           (subst (λ l. Given q old l s.ended p.slices.items p.complete) sight.rows_are (made.gives old fits sight.earlier_are before));
+      may = made.may;
       after_is = made.after_is ∙ (λ j. end_mark (sight.ended_is j) (mark_after (sight.before_is j) (sight.rows_are j))) ∙ sym (marks_follow r x y sight.rises);
     }
 
--- and so are all its slices, where it answers no window itself
-pub slices_are_made : {E : Type 0} (q : Tree) (s : Sight) (r : Result TaskSlices E) → IfOk r (λ p. SlicesFrom q s.before s.rows 0 p.slices.items) → IfOk r (λ p. p.after ≡ end_mark s.ended (mark_after s.before s.rows))
-    → IfOk r (λ p. IsMade q s (piece_of p))
-slices_are_made q s (Ok p) slices after = record { gives = λ old fits end same. subst (λ m. SlicesFrom q m s.rows 0 p.slices.items) same slices; after_is = after }
-slices_are_made q s (Err e) slices after = tt
+-- ---- what a task makes
+
+-- all its slices, where it answers no window
+pub slices_are_made : {E : Type 0} (q : Tree) (s : Sight) (r : Result SlicePiece E) → IfOk r (λ p. SlicesFrom q s.before s.rows 0 p.slices.items) → IfOk r (λ p. p.complete ≡ None) → IfOk r (λ p. p.after ≡ end_mark s.ended (mark_after s.before s.rows))
+    → IfOk r (λ p. IsMade q s p)
+slices_are_made q s (Ok p) slices none after = record {
+  gives = λ old fits end same. subst (λ (o : Option Complete). Given q old s.rows s.ended p.slices.items o) (sym none) (subst (λ m. SlicesFrom q m s.rows 0 p.slices.items) same slices);
+  after_is = after;
+  may = λ c e. absurd (none_some c (sym none ∙ e));
+} where
+  none_some : (c : Complete) → None ≡ Some c → ⊥
+  none_some c e = cc
+slices_are_made q s (Err e) slices none after = tt
+
+-- and what it answers, where it may
+pub pieces_are_made : {E : Type 0} (q : Tree) (s : Sight) (r : Result SlicePiece E) → way q ≡ alike → IfOk r (λ p. Gives q s.earlier s.before s.rows s.ended p.slices.items p.complete) → IfOk r (λ p. p.after ≡ end_mark s.ended (mark_after s.before s.rows))
+    → IfOk r (λ p. IsMade q s p)
+pieces_are_made q s (Ok p) lines gives after = record { gives = gives; after_is = after; may = λ c e. lines }
+pieces_are_made q s (Err e) lines gives after = tt

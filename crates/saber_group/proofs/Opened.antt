@@ -1,18 +1,19 @@
 -- The slices of open windows.
-use Rattle.std.proofs.Common.{◌≡◌, ℕ, ◌+◌, ◌-◌, ◌^◌, ◌≤◌, List, [], length, take, inl, inr, refl, sym, ◌∙◌, ap, subst, le_trans, ⊎_elim, arith}
+use Rattle.std.proofs.Common.{◌≡◌, ℕ, ◌+◌, ◌-◌, ◌^◌, ◌≤◌, List, [], length, max, take, inl, inr, refl, sym, ◌∙◌, ap, subst, le_trans, ⊎_elim, arith}
 use Rattle.std.specs.List.{AllByRecursion}
 use Rattle.std.proofs.lemmas.Bool.{cases_lt}
 use Rattle.std.proofs.lemmas.List.{length-take-le}
 use Rattle.saber_plan.specs.declared.rows.Row.{Row}
 use Rattle.saber_plan.specs.declared.windows.Mark.{Mark}
 use Rattle.saber_plan.specs.Trees.{Tree}
-use Rattle.saber_plan.specs.Parts.{Part, no_part, merge}
+use Rattle.saber_plan.specs.Parts.{Part, no_part, merge, part_answers}
 use Rattle.saber_partial.specs.Tallies.{CanMerge}
 use Rattle.saber_partial.specs.PartLaws.{OfRows}
 use Rattle.saber_partial.proofs.Counted.{small_merge, small_stay}
-use Rattle.saber_sliding.specs.Entries.{Entries, whole, pushed_entries, dropped_entries, part_at, CanFollow}
-use Rattle.saber_sliding.specs.EntryFacts.{all_map, all_dropped, all_pushed, part_at-dropped, whole-dropped, part_at-pushed, part_at-behind}
-use Rattle.saber_group.specs.SliceParts.{part_of, begun_by, Entered, EnteredFrom, IsSlice, Holds}
+use Rattle.saber_sliding.specs.Entries.{Entries, pushed_entries, dropped_entries, part_at, CanFollow, Entered}
+use Rattle.saber_sliding.specs.EntryFacts.{all_map, all_dropped, all_pushed, part_at-dropped, part_at-pushed, part_at-behind}
+use Rattle.saber_sliding.specs.Windows.{AnswersOf}
+use Rattle.saber_group.specs.SliceParts.{part_of, answers_over, begun_by, EnteredFrom, IsSlice, Holds, Settled}
 use Rattle.saber_group.proofs.Lasting.{part_nil, few_more}
 use Rattle.saber_plan.specs.Facts.Parts.{merge-empty_right}
 
@@ -29,8 +30,13 @@ holds_drop q m rows n es h = record {
 pub holds_later : (q : Tree) (m : Mark) (rows : List Row) (n k : ℕ) (es : Entries) → n ≤ k → Holds q m rows n es → Holds q m rows k es
 holds_later q m rows n k es up h = record { at = λ i l. h.at i (le_trans up l); begun = h.begun; few = h.few }
 
-pub whole_is : (q : Tree) (m : Mark) (rows : List Row) (n : ℕ) (es : Entries) → Holds q m rows n es → whole (dropped_entries n es) ≡ part_of q n m rows
-whole_is q m rows n es h = whole-dropped n es ∙ sym (h.at n (omega arith))
+-- what is left of them is still right
+pub held_still : (q : Tree) (m : Mark) (rows : List Row) (next done : ℕ) (es fs : Entries) → next ≤ done → fs ≡ dropped_entries done es → Holds q m rows next es → Holds q m rows done fs
+held_still q m rows next done es fs up left h = subst (Holds q m rows done) (sym left) (holds_drop q m rows done es (holds_later q m rows next done es up h))
+
+-- they tell the answers of windows that get nothing more
+pub answers_held : (q : Tree) (m : Mark) (rows all : List Row) (next low done : ℕ) (es : Entries) → done ≡ max next low → Holds q m rows next es → Settled q m rows all low → AnswersOf q es next done (answers_over q m all)
+answers_held q m rows all next low done es most h settled = λ i up more. ap (part_answers q) (sym (settled i (omega (arith, most, up, more))) ∙ h.at i up)
 
 -- ---- more rows
 

@@ -20,12 +20,13 @@ use Rattle.saber_laws.specs.Plans.{OneWindow}
 use Rattle.saber_plan.specs.Facts.Lists.{slice-front, slice-join}
 use Rattle.saber_plan.specs.Facts.Rows.{fits_take, mark-append}
 use Rattle.saber_plan.specs.Facts.Numbers.{flat_map-from, numbered_is}
-use Rattle.saber_sliding.specs.Entries.{Entries, part_at}
+use Rattle.saber_sliding.specs.Entries.{part_at}
+use Rattle.saber_changes.specs.Outputs.{change_in, way_by, IsBefore}
 use Rattle.saber_group.specs.declared.slice_stores.SliceStore.{SliceStore}
 use Rattle.saber_group.specs.declared.slice_pieces.SlicePiece.{SlicePiece}
 use Rattle.saber_group.specs.SliceParts.{part_of, closed_by, lines_between, Holds}
 use Rattle.saber_group.specs.SlicePieces.{IsOf}
-use Rattle.saber_group.specs.SliceStores.{held_in, TakenIn, Comes, Came}
+use Rattle.saber_group.specs.SliceStores.{held_in, TakenIn, Comes}
 use Rattle.saber_fragment.specs.Stores.{Follows}
 use Rattle.saber_group.proofs.Lasting.{part_whole}
 use Rattle.saber_laws.proofs.EndLaws.{closed_rise}
@@ -107,18 +108,16 @@ module _ (q : Tree) (r : Input) (x y : ℕ) (s : SliceStore) (p : SlicePiece) (k
     }
 
     pub taken_after : (new : SliceStore) → new.begun ≡ begun_count (frame q) p.after → new.windows.next ≡ closed
-        → Holds q no_rows (take (length (old_rows ++ new_rows)) (old_rows ++ new_rows)) closed new.windows.slices.entries → TakenIn q (first_arrivals r y) new
-    taken_after new begun done contents =
+        → Holds q no_rows (take (length (old_rows ++ new_rows)) (old_rows ++ new_rows)) closed new.windows.slices.entries → way q ≡ way_by (change_in new.output) → IsBefore new.output closed → TakenIn q (first_arrivals r y) new
+    taken_after new begun done contents way_is before =
         let all = old_rows ++ new_rows in
         record {
           holds = subst₂ (λ l n. Holds q no_rows l n new.windows.slices.entries) (take_all (length all) all (omega arith) ∙ all_rows) (sym done) contents;
           next_is = done ∙ closed_end;
           begun_is = begun ∙ ap (begun_count (frame q)) f.of_is.after_is;
+          way_is = way_is;
+          is_before = subst (IsBefore new.output) (sym done) before;
         }
-
-    pub text_after : (new : Entries) (done : ℕ) (before after : List ℕ) → Came q old_rows new_rows s.windows.next new closed done before after
-        → after ≡ before ++ lines_between q no_rows (take y r.rows) (closed_count (frame q) (mark_at r x)) (closed_count (frame q) (mark_at r y))
-    text_after new done before after w = w.text ∙ (λ j. before ++ lines_between q no_rows (all_rows j) (f.taken_is.next_is j) (closed_end j))
 
 -- ---- no rows
 

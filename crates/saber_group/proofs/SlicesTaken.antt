@@ -1,54 +1,28 @@
 -- Slices that are taken in, one after another, behind the rows of earlier tasks.
-use Rattle.std.proofs.Common.{◌≡◌, ℕ, suc, ◌+◌, ◌-◌, ◌^◌, ◌≤◌, ◌<◌, List, [], ◌∷◌, ◌++◌, filter, flat_map, map, length, max, take, refl, sym, ◌∙◌, ap, subst, append-nil, append_assoc, arith, Global}
+use Rattle.std.proofs.Common.{◌≡◌, ℕ, suc, ◌+◌, ◌-◌, ◌^◌, ◌≤◌, ◌<◌, List, [], ◌∷◌, ◌++◌, filter, map, length, max, take, refl, sym, ◌∙◌, ap, subst, append-nil, arith, Global}
 use Rattle.std.proofs.lemmas.List.{map-append, nil_from_length, take_all}
 use Rattle.std.specs.Vec.Iter.{into_iter_len, into_iter_items}
 use Rattle.std.specs.declared.vec.IntoIter.{IntoIter}
 use Rattle.std.proofs.lemmas.List.Elements.{filter-append}
-use Rattle.std.proofs.lemmas.List.Concat.{flat_map-append}
 use Rattle.std.specs.List.{AllByRecursion}
 use Rattle.saber_plan.specs.declared.rows.Row.{Row}
 use Rattle.saber_plan.specs.declared.windows.Mark.{Mark}
 use Rattle.saber_plan.specs.Trees.{Tree}
 use Rattle.saber_plan.specs.Values.{passes}
 use Rattle.saber_plan.specs.GivenRows.{RowsFit}
-use Rattle.saber_plan.specs.Windows.{Placed, mark_after, placed_after, has, begun_count, closed_count, from}
-use Rattle.saber_plan.specs.Answers.{frame, passing_values, key_cmp, entry_lines}
-use Rattle.saber_plan.specs.Facts.Maps.{entries-empty}
-use Rattle.saber_plan.specs.Parts.{Part, no_part, group_part, merge, part_lines, group_answer}
+use Rattle.saber_plan.specs.Windows.{Placed, mark_after, placed_after, has, begun_count, closed_count}
+use Rattle.saber_plan.specs.Answers.{frame, passing_values}
+use Rattle.saber_plan.specs.Parts.{Part, group_part, merge}
 use Rattle.saber_plan.specs.Facts.Rows.{mark-append, placed-append, few_rows}
-use Rattle.saber_plan.specs.Facts.Numbers.{flat_nil, flat_step, flat_skip, from_more}
 use Rattle.saber_laws.specs.Plans.{OneWindow}
 use Rattle.saber_partial.specs.PartLaws.{OfRows}
-use Rattle.saber_group.specs.SliceParts.{part_of, begun_by, closed_by, lines_between, Entered, IsSlice, Holds, Settled}
-use Rattle.saber_sliding.specs.Entries.{Entries, CanFollow}
+use Rattle.saber_group.specs.SliceParts.{part_of, begun_by, closed_by, IsSlice, Holds, Settled}
+use Rattle.saber_sliding.specs.Entries.{Entries, CanFollow, Entered}
 use Rattle.saber_group.specs.declared.slices.Slice.{Slice}
 use Rattle.saber_group.specs.SlicePieces.{SlicesTo}
 use Rattle.saber_group.specs.SliceStores.{SlicesAt, GoesOn}
 use Rattle.saber_group.proofs.Opened.{has_room, holds_more}
 use Rattle.saber_laws.proofs.PartLaws.{groups_join, merge_is_associative}
-
--- ---- the text of windows, one after another
-
-no_lines : (q : Tree) (i : ℕ) (p : Part) → p ≡ no_part → part_lines q i p ≡ []
-no_lines q i p e = ap (part_lines q i) e ∙ ap (λ es. entry_lines i (map (group_answer q.shape q.items) es)) (entries-empty key_cmp)
-
-pub text_nil : (q : Tree) (m : Mark) (rows : List Row) (a : ℕ) (out : List ℕ) → out ≡ out ++ lines_between q m rows a a
-text_nil q m rows a out = sym (ap (λ l. out ++ l) (sym (flat_nil (λ i. part_lines q i (part_of q i m rows)) a)) ∙ append-nil out)
-
-pub text_step : (q : Tree) (m : Mark) (rows : List Row) (a n : ℕ) → a ≤ n → (p : Part) (start out new : List ℕ) → p ≡ part_of q n m rows → new ≡ out ++ part_lines q n p → out ≡ start ++ lines_between q m rows a n → new ≡ start ++ lines_between q m rows a (n + 1)
-text_step q m rows a n up p start out new e h t =
-    h ∙ ap (λ o. o ++ part_lines q n p) t ∙ append_assoc start (lines_between q m rows a n) (part_lines q n p)
-    ∙ ap (λ l. start ++ l) (flat_step (λ i. part_lines q i (part_of q i m rows)) a n up (lines_between q m rows a n) (part_lines q n p) refl (ap (part_lines q n) e))
-
-pub text_skip : (q : Tree) (m : Mark) (rows : List Row) (a n k : ℕ) → a ≤ n → n ≤ k → ((i : ℕ) → n ≤ i → i < k → part_of q i m rows ≡ no_part) → (start out : List ℕ) → out ≡ start ++ lines_between q m rows a n → out ≡ start ++ lines_between q m rows a k
-text_skip q m rows a n k up more none start out t =
-    t ∙ ap (λ l. start ++ l) (flat_skip (λ i. part_lines q i (part_of q i m rows)) a n k up more (λ i p r. no_lines q i (part_of q i m rows) (none i p r)) (lines_between q m rows a n) refl)
-
-pub text_join : (q : Tree) (m : Mark) (rows : List Row) (a n k : ℕ) → a ≤ n → n ≤ k → (start out new : List ℕ) → out ≡ start ++ lines_between q m rows a n → new ≡ out ++ lines_between q m rows n k → new ≡ start ++ lines_between q m rows a k
-text_join q m rows a n k up more start out new t h =
-    let g = λ (i : ℕ). part_lines q i (part_of q i m rows) in
-    h ∙ ap (λ o. o ++ lines_between q m rows n k) t ∙ append_assoc start (lines_between q m rows a n) (lines_between q m rows n k)
-    ∙ ap (λ l. start ++ l) (sym (flat_map-append g (from a (n - a)) (from n (k - n))) ∙ sym (ap (flat_map g) (from_more a n k up more)))
 
 -- ---- rows behind others
 

@@ -1,4 +1,3 @@
 pub mod SliceParts
 pub mod SlicePieces
 pub mod SliceStores
-pub mod ChangeStores

@@ -6,14 +6,18 @@ use Rattle.saber_plan.specs.declared.windows.Mark.{Mark}
 use Rattle.saber_plan.specs.Trees.{Tree}
 use Rattle.saber_plan.specs.Values.{passes}
 use Rattle.saber_plan.specs.Windows.{mark_after, placed_after, has, closed_count, begun_count, from}
-use Rattle.saber_plan.specs.Answers.{frame, passing_values}
-use Rattle.saber_plan.specs.Parts.{Part, no_part, group_part, merge, part_lines}
+use Rattle.saber_plan.specs.Answers.{Answers, frame, passing_values}
+use Rattle.saber_plan.specs.Parts.{Part, no_part, group_part, merge, part_answers, part_lines}
 use Rattle.saber_partial.specs.PartLaws.{OfRows}
-use Rattle.saber_sliding.specs.Entries.{Entries, part_at, pushed_entries}
+use Rattle.saber_sliding.specs.Entries.{Entries, part_at, Entered}
 
 -- the part of window i over some rows
 abbrev pub part_of : Tree → ℕ → Mark → List Row → Part
 part_of q i m rows = group_part q (passing_values q (filter (has (frame q) i) (placed_after m rows)))
+
+-- the answers of each window
+abbrev pub answers_over : Tree → Mark → List Row → ℕ → Answers
+answers_over q m rows i = part_answers q (part_of q i m rows)
 
 -- the lines of the windows from a up to b
 abbrev pub lines_between : Tree → Mark → List Row → ℕ → ℕ → List ℕ
@@ -44,11 +48,7 @@ pub record IsSlice (q : Tree) (m : Mark) (rows : List Row) (x y first past : ℕ
 abbrev pub with_row : Tree → Bool → Part → Row → Part
 with_row q is_wanted p row = if is_wanted && passes q.predicate row.values [] then merge p (group_part q (row.values ∷ [])) else p
 
--- a part has come behind others, unless it is empty
-abbrev pub Entered : Entries → ℕ → Part → Entries → Type 0
-Entered es n p fs = ((p ≡ no_part) × (fs ≡ es)) ⊎ (fs ≡ pushed_entries es n p)
-
--- or unless no window from `low` on has its rows
+-- a part has come behind others, unless it is empty or no window from `low` on has its rows
 abbrev pub EnteredFrom : ℕ → Entries → ℕ → Part → Entries → Type 0
 EnteredFrom low es n p fs = ((n ≤ low) × (fs ≡ es)) ⊎ Entered es n p fs
 
@@ -60,15 +60,6 @@ pub record Holds (q : Tree) (m : Mark) (rows : List Row) (next : ℕ) (slices : 
 
 -- ---- windows that are done
 
--- what held of slices holds of those that are left of them
-abbrev pub HoldStill : Tree → ℕ → Entries → ℕ → Entries → Type 0
-HoldStill q next old done new = (m : Mark) (rows : List Row) → Holds q m rows next old → Holds q m rows done new
-
 -- no later row of these lies in the windows below `low`
 abbrev pub Settled : Tree → Mark → List Row → List Row → ℕ → Type 0
 Settled q m rows all low = (i : ℕ) → i < low → part_of q i m rows ≡ part_of q i m all
-
--- the lines of the windows from `next` up to `done` have come behind the text, for any rows of which these slices are
-abbrev pub Printed : Tree → ℕ → Entries → ℕ → ℕ → List ℕ → List ℕ → Type 0
-Printed q next slices low done before after = (m : Mark) (rows all : List Row) → Holds q m rows next slices → Settled q m rows all low
-    → after ≡ before ++ lines_between q m all next done

@@ -6,7 +6,7 @@ use Rattle.saber_plan.specs.declared.windows.Mark.{Mark}
 use Rattle.saber_plan.specs.Inputs.{Input, first_arrivals}
 use Rattle.saber_plan.specs.Trees.{Tree}
 use Rattle.saber_plan.specs.Windows.{no_rows, mark_of, mark_after, mark_at, end_mark, closed_count}
-use Rattle.saber_plan.specs.Answers.{frame}
+use Rattle.saber_plan.specs.Answers.{frame, alike, way}
 use Rattle.saber_plan.specs.GivenRows.{RowsFit}
 use Rattle.saber_fragment.specs.declared.blocks.Earlier.{Earlier}
 use Rattle.saber_fragment.specs.Drafts.{EndWith, Sight}
@@ -52,13 +52,19 @@ abbrev pub TaskSteps : ℕ → ℕ → Option Complete → ℕ → ℕ → Type 
 TaskSteps earlier slices None before after = after ≡ before
 TaskSteps earlier slices (Some c) before after = after + c.open.slices.owed + c.low ≤ before + earlier + 2 * slices + c.open.next
 
+-- only windows that print their lines are answered by a task: what others print stands on the window before
+abbrev pub MayAnswer : Tree → Option Complete → Type 0
+MayAnswer q complete = (c : Complete) → complete ≡ Some c → way q ≡ alike
+
 -- the piece is made of a task's own block
 pub record IsMade (q : Tree) (s : Sight) (p : SlicePiece) : Type 0 where
   pub gives : Gives q s.earlier s.before s.rows s.ended p.slices.items p.complete
   pub after_is : p.after ≡ end_mark s.ended (mark_after s.before s.rows)
+  pub may : MayAnswer q p.complete
 
 -- the piece is that of the arrivals from position x up to position y, before which the input did not end
 pub record IsOf (q : Tree) (r : Input) (x y : ℕ) (p : SlicePiece) : Type 0 where
   pub opens : (first_arrivals r x).ended ≡ false
   pub given : Given q (take x r.rows) (slice_range r.rows x y) (first_arrivals r y).ended p.slices.items p.complete
   pub after_is : p.after ≡ mark_at r y
+  pub may : MayAnswer q p.complete

@@ -14,12 +14,12 @@ ghost use Rattle.saber_group.specs.SlicePieces.{Gives, SlicesFrom, TaskSteps};
 use crate::batch::Batch;
 use crate::group::Group;
 use crate::letting::let_slices_go;
-use crate::open::Open;
 use crate::slices::Slice;
+use saber_changes::Output;
 use saber_fragment::Earlier;
 use saber_partial::Steps;
 use saber_plan::NoMemory;
-use saber_sliding::Front;
+use saber_sliding::{Front, Open};
 use std::alloc::Global;
 use std::sync::ledger::Ledger;
 
@@ -182,9 +182,14 @@ impl Group<'_> {
             }
         };
         let mut text = Vec::new(alloc);
-        match self.take_slices(alloc, &mut open, slices, high, &mut text, steps) {
-            Ok(()) => Ok((closing, Some(Complete { low, text, open }))),
+        let mut each = Output::Each;
+        match self.take_slices(alloc, &mut open, slices, high, &mut each, &mut text, steps) {
+            Ok(()) => {
+                each.let_go();
+                Ok((closing, Some(Complete { low, text, open })))
+            }
             Err(want) => {
+                each.let_go();
                 let_slices_go(closing);
                 open.let_go();
                 Err(want)

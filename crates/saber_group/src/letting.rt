@@ -2,7 +2,6 @@
 // the steps that let each of its parts go would stand in that function, once for each exit, and its
 // proof would take them all in.
 use crate::complete::Complete;
-use crate::open::Open;
 use crate::slices::Slice;
 use saber_partial::Gathering;
 
@@ -16,11 +15,6 @@ pub(crate) fn let_slices_go(_slices: Vec<Slice>) {}
 
 /// Lets go of a part in the making.
 pub(crate) fn let_part_go(_part: Gathering) {}
-
-impl Open {
-    /// Lets the slices go that windows have.
-    pub(crate) fn let_go(self) {}
-}
 
 impl Complete {
     /// Lets go of what a task answered.

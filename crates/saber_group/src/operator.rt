@@ -1,33 +1,37 @@
-// What a group query does with tasks and what they give, whose windows print their answers as they
-// are.
+// What a group query does with tasks and what they give.
 ghost use Rattle.std.specs.Prelude.{◌≡◌};
 ghost use Rattle.saber_plan.specs.declared.plans.Shape.TheVariants as shapes;
 ghost use Rattle.saber_plan.specs.Trees.{tree_of};
-ghost use Rattle.saber_plan.specs.Answers.{alike, way};
+ghost use Rattle.saber_plan.specs.Answers.{alike, by_change, way};
+ghost use Rattle.saber_changes.specs.Counts.{change_of};
 
 use crate::batch::Batch;
 use crate::group::Group;
 use crate::slice_pieces::SlicePiece;
 use crate::slice_stores::SliceStore;
+use saber_changes::Change;
 use saber_fragment::{Block, Operator};
 use saber_plan::{NoMemory, Plan};
 use std::alloc::Global;
 use std::marker::{Brand, Model};
 use std::sync::ledger::Blank;
 
-/// The operator of a checked group query without a stream word or under RSTREAM, over its plan.
-/// Contracts see it as the plan.
+/// The operator of a checked group query without PARTITION BY, over its plan, with the change that
+/// windows print if they don't print their lines. Contracts see it as the plan.
 #[derive(Drop)]
 pub struct GroupOperator<'a> {
     group: Group<'a>,
+    change: Option<Change>,
 }
 
 impl<'a> Model for GroupOperator<'a> {
     ghost use Rattle.std.specs.Prelude.{◌≡◌};
     ghost use Rattle.saber_plan.specs.declared.plans.Plan.{Plan};
+    ghost use Rattle.saber_plan.specs.declared.plans.Shape.TheVariants as shapes;
     ghost use Rattle.saber_plan.specs.Trees.{tree_of};
-    ghost use Rattle.saber_plan.specs.Answers.{alike, way};
+    ghost use Rattle.saber_plan.specs.Answers.{way};
     ghost use Rattle.saber_plan.specs.contracts.plans.Plan as e;
+    ghost use Rattle.saber_changes.specs.Outputs.{way_by};
 
     ghost Value = { Plan };
 
@@ -35,11 +39,11 @@ impl<'a> Model for GroupOperator<'a> {
 
     ghost view = { λ g. g.group };
 
-    ghost invariant = { λ g. way (tree_of g.group) ≡ alike };
+    ghost invariant = { λ g. (way (tree_of g.group) ≡ way_by g.change) × ((tree_of g.group).shape ≡ shapes.Group) };
 }
 
 impl<'a> GroupOperator<'a> {
-    /// The operator of this plan. Takes no memory.
+    /// The operator of this plan, which has no stream word, or RSTREAM. Takes no memory.
     pub fn new(plan: &'a Plan) -> GroupOperator<'a>
         requires group { (tree_of plan.now).shape ≡ shapes.Group }
         requires alike { way (tree_of plan.now) ≡ alike }
@@ -47,6 +51,20 @@ impl<'a> GroupOperator<'a> {
     {
         GroupOperator {
             group: Group::new(plan),
+            change: None,
+        }
+    }
+
+    /// The operator of this plan under ISTREAM or DSTREAM, of whose word the change is. Takes no
+    /// memory.
+    pub fn changing(plan: &'a Plan, change: Change) -> GroupOperator<'a>
+        requires group { (tree_of plan.now).shape ≡ shapes.Group }
+        requires changes { way (tree_of plan.now) ≡ by_change (change_of change) }
+        ensures { result ≡ plan.now }
+    {
+        GroupOperator {
+            group: Group::new(plan),
+            change: Some(change),
         }
     }
 }
@@ -60,17 +78,16 @@ impl Operator for GroupOperator<'_> {
     type Store = SliceStore;
 
     ghost use Rattle.saber_plan.specs.Trees.{tree_of};
-    ghost use Rattle.saber_plan.specs.Tasks.{by_windows};
     ghost use Rattle.saber_group.specs.SlicePieces.{IsMade, IsOf};
-    ghost use Rattle.saber_group.specs.SliceStores.{held_in, TakenIn};
+    ghost use Rattle.saber_group.specs.SliceStores.{kept_in, TakenIn};
 
     ghost plan = { tree_of };
 
     ghost has_seen = { λ group draft s. IsMade (tree_of group) s draft };
 
-    ghost contents = { λ s. by_windows (held_in s) };
+    ghost contents = { kept_in };
 
-    ghost remainder = { λ s. by_windows (held_in s) };
+    ghost remainder = { kept_in };
 
     ghost has_taken = { λ group store r. TakenIn (tree_of group) r store };
 
@@ -82,8 +99,13 @@ impl Operator for GroupOperator<'_> {
             rows: &own.rows,
             ended: own.ended,
         };
-        self.group
-            .piece_uncounted::<Brand>(alloc, &own.earlier, &batch, Blank::new(1))
+        match self.change {
+            None => {
+                self.group
+                    .piece_uncounted::<Brand>(alloc, &own.earlier, &batch, Blank::new(1))
+            }
+            Some(_) => self.group.all_slices(alloc, &batch),
+        }
     }
 
     fn look_back(
@@ -100,7 +122,7 @@ impl Operator for GroupOperator<'_> {
     }
 
     fn empty_store(&self, alloc: Global) -> SliceStore {
-        self.group.no_slices(alloc)
+        self.group.no_slices(alloc, self.change)
     }
 
     fn take_in(
@@ -110,7 +132,6 @@ impl Operator for GroupOperator<'_> {
         piece: SlicePiece,
         out: &mut Vec<u8>,
     ) -> Result<(), NoMemory> {
-        let _plan = &self.group.plan;
         let closed = self.group.closed_below(&piece.after);
         let begun = self.group.begun_below(&piece.after);
         self.group.take_uncounted::<Brand>(
@@ -118,6 +139,7 @@ impl Operator for GroupOperator<'_> {
             &mut store.windows,
             piece,
             closed,
+            &mut store.output,
             out,
             Blank::new(1),
         )?;

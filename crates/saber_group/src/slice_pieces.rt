@@ -1,5 +1,5 @@
 // What a task gives: its slices.
-ghost use Rattle.std.specs.Prelude.{◌≡◌, ◌<◌, ◌≤◌, ◌++◌, ◌∷◌, [], length, IfOk, OnOk};
+ghost use Rattle.std.specs.Prelude.{◌≡◌, ◌<◌, ◌≤◌, ◌++◌, ◌∷◌, [], None, length, IfOk, OnOk};
 ghost use Rattle.saber_plan.specs.Trees.{tree_of};
 ghost use Rattle.saber_plan.specs.Windows.{mark_after, end_mark};
 ghost use Rattle.saber_plan.specs.GivenRows.{RowsFit};
@@ -93,6 +93,23 @@ impl Group<'_> {
         }
         let_part_go(part);
         Ok((slices, mark))
+    }
+
+    /// The piece of a task that answers no window: what its first one prints stands on the window
+    /// before.
+    pub(crate) fn all_slices(&self, alloc: Global, batch: &Batch) -> Result<SlicePiece, NoMemory>
+        requires { RowsFit (tree_of self.now) batch.now.before batch.now.rows.now }
+        ensures slices { IfOk result (λ p. SlicesFrom (tree_of self.now) batch.now.before batch.now.rows.now 0 p.slices.items) }
+        ensures none { IfOk result (λ p. p.complete ≡ None) }
+        ensures after { IfOk result (λ p. p.after ≡ end_mark batch.now.ended (mark_after batch.now.before batch.now.rows.now)) }
+    {
+        let (slices, mark) = self.slices_of(alloc, batch)?;
+        let after = end_mark(batch.ended, &mark);
+        Ok(SlicePiece {
+            slices,
+            complete: None,
+            after,
+        })
     }
 
     // Whether a task is to look at the rows before its own: where most of its slices are of windows

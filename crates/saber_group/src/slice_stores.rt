@@ -1,66 +1,76 @@
-// What is kept from task to task: the slices that open windows have.
-ghost use Rattle.std.specs.Prelude.{◌≡◌, ◌≤◌, ◌<◌, ◌+◌, ◌*◌, ℕ, [], Some, length, OnOk};
-ghost use Rattle.std.specs.FinMap.{empty};
+// What is kept from task to task: the slices that open windows have, and what closed ones print.
+ghost use Rattle.std.specs.Prelude.{◌≡◌, ◌≤◌, ◌<◌, ◌+◌, ◌*◌, ℕ, [], Some, None, length, OnOk};
 ghost use Rattle.saber_plan.specs.Texts.{Behind};
 ghost use Rattle.saber_plan.specs.Trees.{tree_of};
 ghost use Rattle.saber_plan.specs.Inputs.{going_on};
-ghost use Rattle.saber_group.specs.SliceStores.{held_in, CanCome, CanGoOn, HasCome, HasGoneOn, PieceSteps, TakenIn};
+ghost use Rattle.saber_plan.specs.Answers.{way};
+ghost use Rattle.saber_plan.specs.Tasks.{nothing_kept};
+ghost use Rattle.saber_changes.specs.Outputs.{change_in, way_by, IsBefore};
+ghost use Rattle.saber_group.specs.SliceStores.{kept_in, Answering, CanCome, CanGoOn, HasCome, HasGoneOn, PieceSteps, TakenIn};
 
 use crate::complete::Complete;
 use crate::group::Group;
-use crate::open::Open;
 use crate::slice_pieces::SlicePiece;
 use crate::slices::Slice;
+use saber_changes::{Change, Output};
 use saber_partial::Steps;
 use saber_plan::NoMemory;
+use saber_sliding::Open;
 use std::alloc::Global;
 use std::sync::ledger::{Blank, Ledger};
 
-/// The slices that windows have that aren't closed, and how many windows are begun.
+/// The slices that windows have that aren't closed, how many windows are begun, and what is printed
+/// of closed ones.
 #[derive(Drop)]
 pub struct SliceStore {
     pub(crate) windows: Open,
     pub(crate) begun: u64,
+    pub(crate) output: Output,
 }
 
 impl Group<'_> {
-    /// No slice yet, and no window begun. Takes no memory.
-    pub(crate) fn no_slices(&self, alloc: Global) -> SliceStore
-        ensures next { result.windows.next ≡ 0 }
-        ensures contents { held_in result ≡ empty }
+    /// No slice yet, and no window begun, of which lines are printed, or this change. Takes no
+    /// memory.
+    pub(crate) fn no_slices(&self, alloc: Global, change: Option<Change>) -> SliceStore
+        requires { way (tree_of self.now) ≡ way_by change }
+        ensures contents { kept_in result ≡ nothing_kept }
         ensures taken { TakenIn (tree_of self.now) (going_on []) result }
     {
         let _plan = &self.plan;
         SliceStore {
             windows: Open::new(alloc, 0),
             begun: 0,
+            output: Output::new(alloc, change),
         }
     }
 
-    /// Takes the next slices in, and appends the lines of the windows below `closed`. A slice costs
+    /// Takes the next slices in, and appends what the windows below `closed` print. A slice costs
     /// two steps, each now or later, and a window one, however many slices it has and however many
     /// windows have a slice: each merge of two parts is a step. After want of memory some of the
-    /// text may be there, and the store is only safe.
+    /// text may be there, and store and output are only safe.
     pub(crate) fn take_slices<L: Ledger>(
         &self,
         alloc: Global,
         store: &mut Open,
         slices: Vec<Slice>,
         closed: u64,
+        output: &mut Output,
         out: &mut Vec<u8>,
         steps: &mut Steps<L>,
     ) -> Result<(), NoMemory>
-        requires { CanGoOn (tree_of self.now) store.old slices.items closed }
-        ensures went_on { OnOk result (HasGoneOn (tree_of self.now) store.old slices.items closed store.new out.old.items out.new.items) }
+        requires goes_on { CanGoOn (tree_of self.now) store.old slices.items closed }
+        requires before { IsBefore output.old store.old.next }
+        ensures next { OnOk result (store.new.next ≡ closed) }
+        ensures went_on { OnOk result (HasGoneOn (tree_of self.now) store.old output.old slices.items closed store.new output.new out.old.items out.new.items) }
         ensures behind { Behind out.old.items out.new.items }
         ensures steps { OnOk result (steps.new + store.new.slices.owed + store.old.next ≤ steps.old + store.old.slices.owed + 2 * length slices.items + store.new.next) }
     {
         let _plan = &self.plan;
         for slice in slices {
-            store.close_lines(self.plan, slice.first, out, steps)?;
+            store.close(alloc, self.plan, slice.first, output, out, steps)?;
             store.take_in(alloc, slice.past, slice.part, steps)?;
         }
-        store.close_lines(self.plan, closed, out, steps)?;
+        store.close(alloc, self.plan, closed, output, out, steps)?;
         Ok(())
     }
 
@@ -72,15 +82,18 @@ impl Group<'_> {
         store: &mut Open,
         slices: Vec<Slice>,
         complete: Complete,
+        output: &mut Output,
         out: &mut Vec<u8>,
         steps: &mut Steps<L>,
     ) -> Result<(), NoMemory>
-        requires { (closed : ℕ) × CanCome (tree_of self.now) store.old slices.items (Some complete) closed }
-        ensures come { OnOk result ((closed : ℕ) → HasCome (tree_of self.now) store.old slices.items (Some complete) closed store.new out.old.items out.new.items) }
+        requires comes { (closed : ℕ) × CanCome (tree_of self.now) store.old slices.items (Some complete) closed }
+        requires before { IsBefore output.old store.old.next }
+        requires each { change_in output.old ≡ None }
+        ensures come { OnOk result ((closed : ℕ) → HasCome (tree_of self.now) store.old output.old slices.items (Some complete) closed store.new output.new out.old.items out.new.items) }
         ensures behind { Behind out.old.items out.new.items }
         ensures steps { OnOk result (PieceSteps store.old (length slices.items) (Some complete) store.new steps.old steps.new) }
     {
-        match self.take_slices(alloc, store, slices, complete.low, out, steps) {
+        match self.take_slices(alloc, store, slices, complete.low, output, out, steps) {
             Ok(()) => {}
             Err(want) => {
                 complete.let_go();
@@ -98,19 +111,22 @@ impl Group<'_> {
         Ok(())
     }
 
-    /// Takes the piece of the next task in, and appends the lines of the windows below `closed`.
-    /// After want of memory some of the text may be there, and the store is only safe.
+    /// Takes the piece of the next task in, and appends what the windows below `closed` print.
+    /// After want of memory some of the text may be there, and store and output are only safe.
     pub(crate) fn take_piece<L: Ledger>(
         &self,
         alloc: Global,
         store: &mut Open,
         piece: SlicePiece,
         closed: u64,
+        output: &mut Output,
         out: &mut Vec<u8>,
         steps: &mut Steps<L>,
     ) -> Result<(), NoMemory>
-        requires { CanCome (tree_of self.now) store.old piece.slices.items piece.complete closed }
-        ensures come { OnOk result (HasCome (tree_of self.now) store.old piece.slices.items piece.complete closed store.new out.old.items out.new.items) }
+        requires comes { CanCome (tree_of self.now) store.old piece.slices.items piece.complete closed }
+        requires before { IsBefore output.old store.old.next }
+        requires answering { Answering output.old piece.complete }
+        ensures come { OnOk result (HasCome (tree_of self.now) store.old output.old piece.slices.items piece.complete closed store.new output.new out.old.items out.new.items) }
         ensures behind { Behind out.old.items out.new.items }
         ensures steps { OnOk result (PieceSteps store.old (length piece.slices.items) piece.complete store.new steps.old steps.new) }
     {
@@ -121,8 +137,10 @@ impl Group<'_> {
             ..
         } = piece;
         match complete {
-            Some(complete) => self.take_complete(alloc, store, slices, complete, out, steps),
-            None => self.take_slices(alloc, store, slices, closed, out, steps),
+            Some(complete) => {
+                self.take_complete(alloc, store, slices, complete, output, out, steps)
+            }
+            None => self.take_slices(alloc, store, slices, closed, output, out, steps),
         }
     }
 
@@ -133,17 +151,20 @@ impl Group<'_> {
         store: &mut Open,
         piece: SlicePiece,
         closed: u64,
+        output: &mut Output,
         out: &mut Vec<u8>,
         blank: Blank,
     ) -> Result<(), NoMemory>
         requires comes { CanCome (tree_of self.now) store.old piece.slices.items piece.complete closed }
+        requires before { IsBefore output.old store.old.next }
+        requires answering { Answering output.old piece.complete }
         requires name { blank.name ≡ L.name }
         requires parts { blank.parts ≡ L.parts }
         requires some { 0 < blank.parts }
-        ensures come { OnOk result (HasCome (tree_of self.now) store.old piece.slices.items piece.complete closed store.new out.old.items out.new.items) }
+        ensures come { OnOk result (HasCome (tree_of self.now) store.old output.old piece.slices.items piece.complete closed store.new output.new out.old.items out.new.items) }
         ensures behind { Behind out.old.items out.new.items }
     {
         let mut steps = Steps::<L>::new(blank);
-        self.take_piece(alloc, store, piece, closed, out, &mut steps)
+        self.take_piece(alloc, store, piece, closed, output, out, &mut steps)
     }
 }

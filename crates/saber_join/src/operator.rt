@@ -1,31 +1,35 @@
-// The operator of joins whose windows print their answers as they are.
+// The operator of joins.
 ghost use Rattle.std.specs.Prelude.{◌≡◌};
 ghost use Rattle.saber_plan.specs.declared.plans.Shape.TheVariants as shapes;
 ghost use Rattle.saber_plan.specs.Trees.{tree_of};
-ghost use Rattle.saber_plan.specs.Answers.{way, alike};
+ghost use Rattle.saber_plan.specs.Answers.{alike, by_change, way};
+ghost use Rattle.saber_changes.specs.Counts.{change_of};
 
 use crate::draft::JoinDraft;
 use crate::join::Join;
 use crate::pairs::Pairs;
+use saber_changes::Change;
 use saber_fragment::{Block, Operator, Piece};
 use saber_parts::PartStore;
 use saber_plan::{NoMemory, Plan};
 use std::alloc::Global;
 use std::marker::Model;
 
-/// The operator of a checked join whose windows print their answers as they are: without a stream
-/// word, or with RSTREAM (CQL 2006). Contracts see it as its plan.
+/// The operator of a checked join, with the change that windows print (CQL 2006: ISTREAM and
+/// DSTREAM) if they don't print their answers as they are. Contracts see it as its plan.
 #[derive(Drop)]
 pub struct JoinOperator<'a> {
     join: Join<'a>,
+    change: Option<Change>,
 }
 
 impl<'a> Model for JoinOperator<'a> {
     ghost use Rattle.std.specs.Prelude.{◌≡◌};
     ghost use Rattle.saber_plan.specs.declared.plans.Plan.{Plan};
     ghost use Rattle.saber_plan.specs.Trees.{tree_of};
-    ghost use Rattle.saber_plan.specs.Answers.{way, alike};
+    ghost use Rattle.saber_plan.specs.Answers.{way};
     ghost use Rattle.saber_plan.specs.contracts.plans.Plan as e;
+    ghost use Rattle.saber_changes.specs.Outputs.{way_by};
 
     ghost Value = { Plan };
 
@@ -33,11 +37,11 @@ impl<'a> Model for JoinOperator<'a> {
 
     ghost view = { λ o. o.join };
 
-    ghost invariant = { λ o. way (tree_of o.join) ≡ alike };
+    ghost invariant = { λ o. way (tree_of o.join) ≡ way_by o.change };
 }
 
 impl<'a> JoinOperator<'a> {
-    /// The operator of this plan. Takes no memory.
+    /// The operator of this plan, without a stream word or with RSTREAM. Takes no memory.
     pub fn new(plan: &'a Plan) -> JoinOperator<'a>
         requires join { (tree_of plan.now).shape ≡ shapes.Join }
         requires alike { way (tree_of plan.now) ≡ alike }
@@ -45,6 +49,19 @@ impl<'a> JoinOperator<'a> {
     {
         JoinOperator {
             join: Join::new(plan),
+            change: None,
+        }
+    }
+
+    /// The operator of this plan, whose stream word asks for this change. Takes no memory.
+    pub fn changing(plan: &'a Plan, change: Change) -> JoinOperator<'a>
+        requires join { (tree_of plan.now).shape ≡ shapes.Join }
+        requires changes { way (tree_of plan.now) ≡ by_change (change_of change) }
+        ensures { result ≡ plan.now }
+    {
+        JoinOperator {
+            join: Join::new(plan),
+            change: Some(change),
         }
     }
 }
@@ -56,25 +73,23 @@ impl Operator for JoinOperator<'_> {
 
     type Store = PartStore<Pairs>;
 
-    ghost use Rattle.std.specs.Prelude.{◌≡◌};
     ghost use Rattle.saber_plan.specs.Trees.{tree_of};
-    ghost use Rattle.saber_plan.specs.Shares.{shares_between};
-    ghost use Rattle.saber_plan.specs.Tasks.{by_windows};
     ghost use Rattle.saber_fragment.specs.Shown.{shares_of};
-    ghost use Rattle.saber_parts.specs.Stored.{held_by, remainder_by};
+    ghost use Rattle.saber_parts.specs.Stored.{parts_by, parts_from};
+    ghost use Rattle.saber_parts.specs.Taking.{kept_by, HasTaken, IsGiven};
     ghost use Rattle.saber_join.specs.Sights.{HasSeen};
 
     ghost plan = { tree_of };
 
-    ghost has_seen = { λ p draft s. HasSeen (tree_of p) draft s };
+    ghost has_seen = { λ o draft s. HasSeen (tree_of o) draft s };
 
-    ghost contents = { λ s. by_windows (held_by (λ part. part) s) };
+    ghost contents = { λ s. kept_by (parts_by (λ part. part) s.parts.entries) s.output };
 
-    ghost remainder = { λ s. by_windows (remainder_by (λ part. part) s) };
+    ghost remainder = { λ s. kept_by (parts_from (λ part. part) s.closed_below s.parts.entries) s.output };
 
-    ghost has_taken = { λ _ _ _. Unit {0} };
+    ghost has_taken = { λ o s r. HasTaken (tree_of o) s.output r };
 
-    ghost is_of = { λ p piece r x y. shares_of (λ part. part) piece ≡ shares_between (tree_of p) r x y };
+    ghost is_of = { λ o piece r x y. IsGiven (tree_of o) (shares_of (λ part. part) piece) r x y };
 
     fn start(&self, alloc: Global, own: &Block) -> Result<JoinDraft, NoMemory> {
         JoinDraft::new(alloc, own)
@@ -90,23 +105,23 @@ impl Operator for JoinOperator<'_> {
     }
 
     fn finish(&self, alloc: Global, draft: JoinDraft) -> Result<Piece<Pairs>, NoMemory> {
-        let piece = self.join.piece_of(alloc, &draft);
+        let piece = self.join.given_of(alloc, &draft, self.change);
         draft.let_go();
         piece
     }
 
     fn empty_store(&self, alloc: Global) -> PartStore<Pairs> {
-        PartStore::new(alloc)
+        self.join.no_parts(alloc, self.change)
     }
 
     fn take_in(
         &self,
-        _alloc: Global,
+        alloc: Global,
         store: &mut PartStore<Pairs>,
         piece: Piece<Pairs>,
         out: &mut Vec<u8>,
     ) -> Result<(), NoMemory> {
-        store.take_in(&self.join, piece, out)?;
+        store.take_in(alloc, &self.join, piece, out)?;
         Ok(())
     }
 

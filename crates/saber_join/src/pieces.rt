@@ -3,20 +3,26 @@ use crate::back::mark_before;
 use crate::draft::JoinDraft;
 use crate::join::Join;
 use crate::pairs::Pairs;
+use saber_changes::Change;
 use saber_fragment::Piece;
-use saber_parts::{handed_of_windows, piece_of_windows};
+use saber_parts::{PartStore, handed_of_windows, piece_of_windows};
 use saber_plan::NoMemory;
 use saber_window::{Bounds, end_mark};
 use std::alloc::Global;
 use std::collections::BTreeMap;
 
 impl Join<'_> {
-    ghost use Rattle.std.specs.Prelude.{◌≡◌, ℕ, IfOk};
-    ghost use Rattle.saber_plan.specs.Inputs.{Input};
+    ghost use Rattle.std.specs.Prelude.{◌≡◌, ℕ, [], IfOk};
+    ghost use Rattle.saber_plan.specs.Inputs.{Input, going_on};
+    ghost use Rattle.saber_plan.specs.Tasks.{nothing_kept};
     ghost use Rattle.saber_plan.specs.Trees.{tree_of};
+    ghost use Rattle.saber_plan.specs.Answers.{way};
     ghost use Rattle.saber_plan.specs.Shares.{shares_between, handed_between};
     ghost use Rattle.saber_fragment.specs.Drafts.{Sight, IsWhole, IsSightOf};
     ghost use Rattle.saber_fragment.specs.Shown.{shares_of};
+    ghost use Rattle.saber_changes.specs.Outputs.{way_by};
+    ghost use Rattle.saber_parts.specs.Stored.{parts_by};
+    ghost use Rattle.saber_parts.specs.Taking.{kept_by, HasTaken, IsGiven};
     ghost use Rattle.saber_join.specs.Sights.{HasSeen};
     ghost use Rattle.saber_join.specs.Pieces.{AreOfTask};
 
@@ -72,5 +78,33 @@ impl Join<'_> {
         let (bounds, windows) = self.task_windows(alloc, draft)?;
         let piece = handed_of_windows(alloc, self, &bounds, windows)?;
         Ok(piece)
+    }
+
+    /// Which of both it is, by what windows print.
+    pub(crate) fn given_of(
+        &self,
+        alloc: Global,
+        draft: &JoinDraft,
+        change: Option<Change>,
+    ) -> Result<Piece<Pairs>, NoMemory>
+        requires seen { (s : Sight) × HasSeen (tree_of self.now) draft.now s × IsWhole (tree_of self.now) s }
+        requires way { way (tree_of self.now) ≡ way_by change }
+        ensures { IfOk result (λ p. (s : Sight) (r : Input) (x y : ℕ) → HasSeen (tree_of self.now) draft.now s → IsWhole (tree_of self.now) s
+            → IsSightOf (tree_of self.now) s r x y → IsGiven (tree_of self.now) (shares_of (λ part. part) p) r x y) }
+    {
+        match change {
+            None => self.piece_of(alloc, draft),
+            Some(_) => self.handed_of(alloc, draft),
+        }
+    }
+
+    /// A store without a part, of windows that print their lines, or this change. Takes no memory.
+    pub(crate) fn no_parts(&self, alloc: Global, change: Option<Change>) -> PartStore<Pairs>
+        requires { way (tree_of self.now) ≡ way_by change }
+        ensures contents { kept_by (parts_by (λ part. part) result.parts.entries) result.output ≡ nothing_kept }
+        ensures taken { HasTaken (tree_of self.now) result.output (going_on []) }
+    {
+        let _plan = &self.plan;
+        PartStore::new(alloc, change)
     }
 }

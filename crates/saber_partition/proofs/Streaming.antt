@@ -1,5 +1,5 @@
 -- A queue of the parts of one stream of rows: one row more, and windows that are done.
-use Rattle.std.proofs.Common.{◌≡◌, ℕ, ◌+◌, ◌-◌, ◌^◌, ◌≤◌, ◌<◌, max, List, [], ◌∷◌, ◌++◌, filter, map, length, slice_range, Bool, true, false, cond, nat_lt, inl, inr, refl, sym, ◌∙◌, ap, subst, le_trans, ⊎_elim, append-nil, append_assoc, length-append, arith}
+use Rattle.std.proofs.Common.{◌≡◌, ℕ, ◌+◌, ◌-◌, ◌^◌, ◌≤◌, ◌<◌, max, List, [], ◌∷◌, ◌++◌, filter, map, length, slice_range, Bool, true, false, cond, nat_lt, None, inl, inr, refl, sym, ◌∙◌, ap, subst, le_trans, ⊎_elim, length-append, arith}
 use Rattle.std.specs.List.{AllByRecursion}
 use Rattle.std.proofs.lemmas.Bool.{cases_lt}
 use Rattle.std.proofs.lemmas.List.{map-append, take_all}
@@ -9,18 +9,20 @@ use Rattle.saber_plan.specs.declared.plans.Shape.TheVariants.{Group}
 use Rattle.saber_plan.specs.Trees.{Tree}
 use Rattle.saber_plan.specs.Values.{passes}
 use Rattle.saber_plan.specs.Windows.{Placed, no_rows, mark_of, placed_from_start, placed_after, has}
-use Rattle.saber_plan.specs.Answers.{frame, passing_values, by_shape, key_cmp, entry_lines, lines, lines_from, past_in, begun_in}
-use Rattle.saber_plan.specs.Facts.Maps.{entries-empty}
+use Rattle.saber_plan.specs.Answers.{frame, passing_values, by_shape, answer_lines, lines, lines_from, past_in, begun_in}
 use Rattle.saber_plan.specs.Facts.Lists.{few_pass}
 use Rattle.saber_plan.specs.Parts as p
-use Rattle.saber_plan.specs.Parts.{Part, part, no_part, group_part, pair_part, merge, part_lines, group_answer}
-use Rattle.saber_plan.specs.Facts.Numbers.{flat_map-from, flat_nil, flat_step, flat_skip}
+use Rattle.saber_plan.specs.Parts.{Part, part, no_part, group_part, pair_part, merge, part_lines, part_answers}
+use Rattle.saber_plan.specs.Facts.Numbers.{flat_map-from}
 use Rattle.saber_plan.specs.Facts.Rows.{placed-append, placed-one, length-placed, few_rows}
 use Rattle.saber_partial.specs.Tallies.{CanMerge}
 use Rattle.saber_partial.specs.PartLaws.{OfRows}
-use Rattle.saber_sliding.specs.Entries.{Entries, whole, dropped_entries, part_at, CanFollow, Put}
-use Rattle.saber_sliding.specs.EntryFacts.{all_map, all_dropped, all_put, part_at-dropped, whole-dropped, part_at-put, part_at-behind}
-use Rattle.saber_partition.specs.Streams.{part_of, lines_between, row_part, Entered, Holds, HoldStill, Printed, Comes, Came}
+use Rattle.saber_sliding.specs.Entries.{Entries, dropped_entries, part_at, CanFollow, Put}
+use Rattle.saber_sliding.specs.EntryFacts.{all_map, all_dropped, all_put, part_at-dropped, part_at-put, part_at-behind}
+use Rattle.saber_changes.specs.Outputs.{printed_at, printed_from}
+use Rattle.saber_sliding.specs.Windows.{answers_at}
+use Rattle.saber_changes.specs.OutputFacts.{lines_are as lines_of_answers}
+use Rattle.saber_partition.specs.Streams.{part_of, lines_between, row_part, Entered, Holds, Printed, Comes, Came}
 use Rattle.saber_partition.proofs.Counting.{has_is, past_rises, begun_rises, lt_true, lt_false}
 use Rattle.saber_partial.proofs.Counted.{groups_are_of_rows, small_merge, small_stay}
 use Rattle.saber_laws.proofs.PartLaws.{groups_join}
@@ -41,25 +43,15 @@ holds_drop q us n es h = record {
 pub holds_later : (q : Tree) (us : List Row) (n k : ℕ) (es : Entries) → n ≤ k → Holds q us n es → Holds q us k es
 holds_later q us n k es up h = record { at = λ i l. h.at i (le_trans up l); begun = h.begun; few = h.few }
 
-pub whole_is : (q : Tree) (us : List Row) (n : ℕ) (es : Entries) → Holds q us n es → whole (dropped_entries n es) ≡ part_of q n us
-whole_is q us n es h = whole-dropped n es ∙ sym (h.at n (omega arith))
+-- a queue from which they went
+held_still : (q : Tree) (us : List Row) (next done : ℕ) (es fs : Entries) → next ≤ done → fs ≡ dropped_entries done es → Holds q us next es → Holds q us done fs
+held_still q us next done es fs up left h = subst (Holds q us done) (sym left) (holds_drop q us done es (holds_later q us next done es up h))
 
--- ---- the text of windows, one after another
-
-no_lines : (q : Tree) (i : ℕ) (p : Part) → p ≡ no_part → part_lines q i p ≡ []
-no_lines q i p e = ap (part_lines q i) e ∙ ap (λ es. entry_lines i (map (group_answer q.shape q.items) es)) (entries-empty key_cmp)
-
-pub text_nil : (q : Tree) (us : List Row) (a : ℕ) (out : List ℕ) → out ≡ out ++ lines_between q us a a
-text_nil q us a out = sym (ap (λ l. out ++ l) (sym (flat_nil (λ i. part_lines q i (part_of q i us)) a)) ∙ append-nil out)
-
-pub text_step : (q : Tree) (us : List Row) (a n : ℕ) → a ≤ n → (p : Part) (start out new : List ℕ) → p ≡ part_of q n us → new ≡ out ++ part_lines q n p → out ≡ start ++ lines_between q us a n → new ≡ start ++ lines_between q us a (n + 1)
-text_step q us a n up p start out new e h t =
-    h ∙ ap (λ o. o ++ part_lines q n p) t ∙ append_assoc start (lines_between q us a n) (part_lines q n p)
-    ∙ ap (λ l. start ++ l) (flat_step (λ i. part_lines q i (part_of q i us)) a n up (lines_between q us a n) (part_lines q n p) refl (ap (part_lines q n) e))
-
-pub text_skip : (q : Tree) (us : List Row) (a n k : ℕ) → a ≤ n → n ≤ k → ((i : ℕ) → n ≤ i → i < k → part_of q i us ≡ no_part) → (start out : List ℕ) → out ≡ start ++ lines_between q us a n → out ≡ start ++ lines_between q us a k
-text_skip q us a n k up more none start out t =
-    t ∙ ap (λ l. start ++ l) (flat_skip (λ i. part_lines q i (part_of q i us)) a n k up more (λ i p r. no_lines q i (part_of q i us) (none i p r)) (lines_between q us a n) refl)
+-- what windows print of a queue are the lines of the rows' own parts
+pub printed : (q : Tree) (next : ℕ) (es : Entries) (done : ℕ) (before after : List ℕ) → after ≡ before ++ printed_from None (answers_at q es) next done → Printed q next es done before after
+printed q next es done before after text = λ us h.
+    text ∙ ap (λ l. before ++ l) (flat_map-from (printed_at None (answers_at q es)) (λ i. part_lines q i (part_of q i us)) next (done - next)
+    (λ i l r. ap (λ p. answer_lines i (part_answers q p)) (sym (h.at i l)) ∙ sym (lines_of_answers q i (part_of q i us))))
 
 -- the part of a window over all rows
 part_whole : (q : Tree) → q.shape ≡ Group → (i : ℕ) (us : List Row) → part q i us 0 (length us) ≡ part_of q i us
@@ -197,15 +189,15 @@ module _ (q : Tree) (us : List Row) (r : Row) (low past : ℕ) (m : Part) (c : C
     holds_more fs (inr put) = holds_put fs put
 
     -- the row is in, and the windows below `low` are done
-    pub came : (fs gs : Entries) (done begun : ℕ) (before after : List ℕ) → Entered es past m fs → HoldStill q next fs done gs → Printed q next fs done before after
+    pub came : (fs gs : Entries) (done begun : ℕ) (before after : List ℕ) → Entered es past m fs → gs ≡ dropped_entries done fs → after ≡ before ++ printed_from None (answers_at q fs) next done
         → done ≡ max next low → begun ≡ past → Came q us r done begun gs before after
-    came fs gs done begun before after entered still printed most same =
+    came fs gs done begun before after entered left text most same =
         let up = past_rises q c.asks us r c.fits in
         let n_is = next_is in
         let l_is = c.low_is in
         let at_low : done ≡ low = omega (arith, most, up, n_is, l_is) in
         let more = holds_more fs entered in
         record {
-          keeps = record { holds = still all more; next_is = at_low ∙ c.low_is; begun_is = same ∙ c.past_is };
-          text = printed all more ∙ ap (λ l. before ++ l) ((λ j. lines_between q all (next_is j) ((at_low ∙ c.low_is) j)) ∙ sym (lines_are q c.asks.group all (past_in q us) (past_in q all)));
+          keeps = record { holds = held_still q all next done fs gs (omega (arith, most)) left more; next_is = at_low ∙ c.low_is; begun_is = same ∙ c.past_is };
+          text = printed q next fs done before after text all more ∙ ap (λ l. before ++ l) ((λ j. lines_between q all (next_is j) ((at_low ∙ c.low_is) j)) ∙ sym (lines_are q c.asks.group all (past_in q us) (past_in q all)));
         }

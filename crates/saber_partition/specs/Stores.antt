@@ -11,7 +11,7 @@ use Rattle.saber_partition.specs.Pieces.{Made, IsPlace}
 use Rattle.saber_partition.specs.Streams.{part_in}
 
 abbrev pub own_of : Keyed → Own
-own_of s = record { next = s.next; begun = s.begun; entries = s.parts.entries }
+own_of s = record { next = s.windows.next; begun = s.begun; entries = s.windows.slices.entries }
 
 abbrev pub lists_of : List (ArrayVec ℤ × Keyed) → Lists
 lists_of es = from_entries {R = key_cmp} (map (λ e. (e.0.items, own_of e.1)) es)

@@ -54,10 +54,6 @@ pub record Holds (q : Tree) (us : List Row) (next : ℕ) (es : Entries) : Type 0
   pub begun : AllByRecursion (λ (e : ℕ × Part). e.0 ≤ begun_in q us) es
   pub few : AllByRecursion (λ (e : ℕ × Part). OfRows q (length us) e.1) es
 
--- what held of a queue holds of what is left of it
-abbrev pub HoldStill : Tree → ℕ → Entries → ℕ → Entries → Type 0
-HoldStill q next old done new = (us : List Row) → Holds q us next old → Holds q us done new
-
 -- the lines of the windows from `next` up to `done` have come behind the text, for any rows of which this is the queue
 abbrev pub Printed : Tree → ℕ → Entries → ℕ → List ℕ → List ℕ → Type 0
 Printed q next es done before after = (us : List Row) → Holds q us next es → after ≡ before ++ lines_between q us next done

@@ -114,18 +114,19 @@ pub(crate) fn take_rows<L: Ledger>(
 
 // Appends the lines of the windows of a key list that are begun and not closed.
 fn close_list<L: Ledger>(
+    alloc: Global,
     plan: &Plan,
     kept: Keyed,
     out: &mut Vec<u8>,
     steps: &mut Steps<L>,
 ) -> Result<(), NoMemory>
     requires { Asks (tree_of plan.now) }
-    ensures printed { OnOk result (Printed (tree_of plan.now) kept.next kept.parts.entries (max kept.next kept.begun) out.old.items out.new.items) }
+    ensures printed { OnOk result (Printed (tree_of plan.now) kept.windows.next kept.windows.slices.entries (max kept.windows.next kept.begun) out.old.items out.new.items) }
     ensures behind { Behind out.old.items out.new.items }
 {
     let mut own = kept;
     let begun = own.begun;
-    match own.close_lines(plan, begun, out, steps) {
+    match own.windows.close_lines(alloc, plan, begun, out, steps) {
         Ok(()) => {
             own.let_go();
             Ok(())
@@ -139,6 +140,7 @@ fn close_list<L: Ledger>(
 
 // Appends those of all key lists, in their order.
 fn close_all<L: Ledger>(
+    alloc: Global,
     plan: &Plan,
     lists: BTreeMap<ArrayVec<i64, 8>, Keyed>,
     out: &mut Vec<u8>,
@@ -151,7 +153,7 @@ fn close_all<L: Ledger>(
 {
     let _count = lists.len();
     for (list, kept) in lists {
-        close_list(plan, kept, out, steps)?;
+        close_list(alloc, plan, kept, out, steps)?;
     }
     Ok(())
 }
@@ -174,6 +176,6 @@ pub(crate) fn take_end<L: Ledger>(
         return Ok(());
     }
     let all = mem::replace(lists, BTreeMap::new(alloc));
-    close_all(plan, all, out, steps)?;
+    close_all(alloc, plan, all, out, steps)?;
     Ok(())
 }

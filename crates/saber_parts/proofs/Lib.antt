@@ -5,3 +5,4 @@ mod Dropping
 mod Ranged
 mod Storing
 mod Entering
+mod Taken

@@ -1,5 +1,5 @@
 pub mod Stored
 pub mod Changing
-pub mod ChangeFacts
+pub mod Taking
 pub mod Entries
 pub mod WindowFacts

@@ -14,20 +14,9 @@ use Rattle.saber_fragment.specs.Shown.{windows_by, shares_of}
 abbrev pub parts_by : {P : Type 0} → (P → Part) → List (ℕ × P) → Parts
 parts_by shown es = from_entries {R = nat_cmp} (windows_by shown es)
 
--- the entries that a store has, and how many windows are closed
-abbrev pub Kept : Type 0 → Type 0
-Kept P = List (ℕ × P) × ℕ
-
 -- those of the windows from number c on
 abbrev pub parts_from : {P : Type 0} → (P → Part) → ℕ → List (ℕ × P) → Parts
 parts_from shown c es = parts_by shown (filter (λ e. nat_le c e.0) es)
-
--- the parts that it holds, and those of them that stay, their windows not being closed
-abbrev pub held_by : {P : Type 0} → (P → Part) → Kept P → Parts
-held_by shown s = parts_by shown s.0
-
-abbrev pub remainder_by : {P : Type 0} → (P → Part) → Kept P → Parts
-remainder_by shown s = parts_from shown s.1 s.0
 
 -- what a piece adds to the text behind the rows whose parts these are, and the parts that are open then
 abbrev pub written_of : {P : Type 0} → (P → Part) → Tree → List (ℕ × P) → Piece P → List ℕ

@@ -56,6 +56,10 @@ last_number (e ∷ f ∷ es) = last_number (f ∷ es)
 abbrev pub Put : Entries → ℕ → Part → Entries → Type 0
 Put es n p fs = (fs ≡ pushed_entries es n p) ⊎ ((last_number es ≡ Some n) × (fs ≡ followed_entries p es))
 
+-- a part has come behind them all as one entry more, unless it is empty
+abbrev pub Entered : Entries → ℕ → Part → Entries → Type 0
+Entered es n p fs = ((p ≡ no_part) × (fs ≡ es)) ⊎ (fs ≡ pushed_entries es n p)
+
 -- what window i has: the first entry that it has, and all behind it
 abbrev pub part_at : Entries → ℕ → Part
 part_at [] i = no_part

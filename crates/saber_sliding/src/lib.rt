@@ -3,17 +3,21 @@
 //! slices in it, those with PARTITION BY a queue for each key.
 //!
 //! - Parts: `queue` (`Sliding`), `together` (rows that share an entry), `front` (`Front`: parts
-//!   that are to be summed up at once).
+//!   that are to be summed up at once), `open` (`Open`: the queue of the windows that aren't done,
+//!   and the loop over those that are).
 //! - Calls: `push` puts a part behind the others, with the first window that doesn't have it; `put`
 //!   does so with the part of a row, which is lent, but one of the same slice as the last entry
 //!   goes into that, so that rows of one slice share an entry; `drop_to` lets those at the front go
 //!   that a window doesn't have; `lines` prints the merge of all that are there, and `answers`
-//!   gives its answers as values; `Front::into_queue` makes a queue of parts.
+//!   gives its answers as values; `Front::into_queue` makes a queue of parts. `Open::close` passes
+//!   the windows below a number, and appends what its `Output` says of each: its lines, or what it
+//!   gains or loses; `close_lines` is for lines alone.
 //! - Proved: each entry is seen with the merge of itself and all behind it (`specs/Entries.antt`),
 //!   and the queue with how many steps (merges) it still owes. `push` or `put` costs two steps, now
 //!   or later, `lines` or `answers` one more, `drop_to` none. Of a `Front` no part is merged before
 //!   all are there, and then it is one step for each. After want of memory `lines` leaves the text
-//!   as it was.
+//!   as it was. Of the windows that `close` passes each prints what is due of the answers that it
+//!   has of the entries, and those stay that a later window has (`specs/Windows.antt`).
 //! - Not claimed: what a step costs: a part of many groups is longer to merge than one of few. That
 //!   `put` finds the last entry in the back: one that is summed up takes no more in. That an entry
 //!   that goes leaves its memory for the next one of a row.
@@ -21,8 +25,10 @@
 #![tactic(auto)]
 
 mod front;
+mod open;
 mod queue;
 mod together;
 
 pub use front::Front;
+pub use open::Open;
 pub use queue::Sliding;

@@ -1,30 +1,36 @@
-// Selections whose windows print their answers as they are.
+// The operator of selections with a window.
 ghost use Rattle.std.specs.Prelude.{◌≡◌, Some};
 ghost use Rattle.saber_plan.specs.declared.plans.Shape.TheVariants as shapes;
 ghost use Rattle.saber_plan.specs.declared.plans.Word.TheVariants as words;
 ghost use Rattle.saber_plan.specs.Trees.{tree_of};
+ghost use Rattle.saber_plan.specs.Answers.{by_change, way};
+ghost use Rattle.saber_changes.specs.Counts.{change_of};
 
 use crate::picked::Picked;
 use crate::select::WindowedSelect;
+use saber_changes::Change;
 use saber_fragment::{Block, Operator, Piece};
 use saber_parts::PartStore;
 use saber_plan::{NoMemory, Plan};
 use std::alloc::Global;
 use std::marker::Model;
 
-/// The operator of a checked selection under RSTREAM: for each window the rows of it that pass
-/// WHERE. Contracts see it as the plan.
+/// The operator of a checked selection under a stream word: for each window the rows of it that
+/// pass WHERE, under RSTREAM all, and under ISTREAM and DSTREAM the change, those that the window
+/// before hasn't, or those of the window before that it hasn't. Contracts see it as the plan.
 #[derive(Drop)]
 pub struct WindowedOperator<'a> {
     select: WindowedSelect<'a>,
+    change: Option<Change>,
 }
 
 impl<'a> Model for WindowedOperator<'a> {
     ghost use Rattle.std.specs.Prelude.{◌≡◌};
     ghost use Rattle.saber_plan.specs.declared.plans.Plan.{Plan};
     ghost use Rattle.saber_plan.specs.Trees.{tree_of};
-    ghost use Rattle.saber_plan.specs.Answers.{alike, way};
+    ghost use Rattle.saber_plan.specs.Answers.{way};
     ghost use Rattle.saber_plan.specs.contracts.plans.Plan as e;
+    ghost use Rattle.saber_changes.specs.Outputs.{way_by};
 
     ghost Value = { Plan };
 
@@ -32,11 +38,11 @@ impl<'a> Model for WindowedOperator<'a> {
 
     ghost view = { λ o. o.select };
 
-    ghost invariant = { λ o. way (tree_of o.select) ≡ alike };
+    ghost invariant = { λ o. way (tree_of o.select) ≡ way_by o.change };
 }
 
 impl<'a> WindowedOperator<'a> {
-    /// The operator of this plan. Takes no memory.
+    /// The operator of this plan, with RSTREAM. Takes no memory.
     pub fn new(plan: &'a Plan) -> WindowedOperator<'a>
         requires select { (tree_of plan.now).shape ≡ shapes.Select }
         requires word { (tree_of plan.now).word ≡ Some words.Rstream }
@@ -44,6 +50,19 @@ impl<'a> WindowedOperator<'a> {
     {
         WindowedOperator {
             select: WindowedSelect::new(plan),
+            change: None,
+        }
+    }
+
+    /// The operator of this plan, whose stream word asks for this change. Takes no memory.
+    pub fn changing(plan: &'a Plan, change: Change) -> WindowedOperator<'a>
+        requires select { (tree_of plan.now).shape ≡ shapes.Select }
+        requires changes { way (tree_of plan.now) ≡ by_change (change_of change) }
+        ensures { result ≡ plan.now }
+    {
+        WindowedOperator {
+            select: WindowedSelect::new(plan),
+            change: Some(change),
         }
     }
 }
@@ -56,10 +75,10 @@ impl Operator for WindowedOperator<'_> {
 
     type Store = PartStore<Picked>;
 
-    ghost use Rattle.saber_plan.specs.Shares.{shares_between};
-    ghost use Rattle.saber_plan.specs.Tasks.{by_windows};
+    ghost use Rattle.saber_plan.specs.Trees.{tree_of};
     ghost use Rattle.saber_fragment.specs.Shown.{shares_of};
-    ghost use Rattle.saber_parts.specs.Stored.{held_by, remainder_by};
+    ghost use Rattle.saber_parts.specs.Stored.{parts_by, parts_from};
+    ghost use Rattle.saber_parts.specs.Taking.{kept_by, HasTaken, IsGiven};
     ghost use Rattle.saber_windowed.specs.Found.{part_of};
     ghost use Rattle.saber_windowed.specs.Sights.{Gives};
 
@@ -67,16 +86,16 @@ impl Operator for WindowedOperator<'_> {
 
     ghost has_seen = { λ o draft s. Gives (tree_of o) (shares_of part_of draft) s };
 
-    ghost contents = { λ s. by_windows (held_by part_of s) };
+    ghost contents = { λ s. kept_by (parts_by part_of s.parts.entries) s.output };
 
-    ghost remainder = { λ s. by_windows (remainder_by part_of s) };
+    ghost remainder = { λ s. kept_by (parts_from part_of s.closed_below s.parts.entries) s.output };
 
-    ghost has_taken = { λ _ _ _. Unit {0} };
+    ghost has_taken = { λ o s r. HasTaken (tree_of o) s.output r };
 
-    ghost is_of = { λ o piece r x y. shares_of part_of piece ≡ shares_between (tree_of o) r x y };
+    ghost is_of = { λ o piece r x y. IsGiven (tree_of o) (shares_of part_of piece) r x y };
 
     fn start(&self, alloc: Global, own: &Block) -> Result<Piece<Picked>, NoMemory> {
-        self.select.piece_of(alloc, own)
+        self.select.given_of(alloc, own, self.change)
     }
 
     fn look_back(
@@ -94,17 +113,17 @@ impl Operator for WindowedOperator<'_> {
     }
 
     fn empty_store(&self, alloc: Global) -> PartStore<Picked> {
-        PartStore::new(alloc)
+        self.select.no_parts(alloc, self.change)
     }
 
     fn take_in(
         &self,
-        _alloc: Global,
+        alloc: Global,
         store: &mut PartStore<Picked>,
         piece: Piece<Picked>,
         out: &mut Vec<u8>,
     ) -> Result<(), NoMemory> {
-        store.take_in(&self.select, piece, out)?;
+        store.take_in(alloc, &self.select, piece, out)?;
         Ok(())
     }
 

@@ -1,19 +1,27 @@
 // What a task of a selection gives, from its own rows.
 ghost use Rattle.std.specs.Prelude.{◌≡◌, [], IfOk};
 ghost use Rattle.saber_plan.specs.Trees.{tree_of};
-ghost use Rattle.saber_plan.specs.Answers.{frame};
+ghost use Rattle.saber_plan.specs.Answers.{frame, way};
 ghost use Rattle.saber_plan.specs.Windows.{mark_after, end_mark};
 ghost use Rattle.saber_plan.specs.GivenRows.{RowsFit};
 ghost use Rattle.saber_plan.specs.Shares.{shares_here, handed_here};
+ghost use Rattle.saber_fragment.specs.Drafts.{own_sight};
 ghost use Rattle.saber_fragment.specs.Shown.{shares_of};
+ghost use Rattle.saber_changes.specs.Outputs.{way_by};
 ghost use Rattle.saber_window.specs.Kinds.{AreBounds};
+ghost use Rattle.saber_plan.specs.Inputs.{going_on};
+ghost use Rattle.saber_plan.specs.Tasks.{nothing_kept};
+ghost use Rattle.saber_parts.specs.Stored.{parts_by};
+ghost use Rattle.saber_parts.specs.Taking.{kept_by, HasTaken};
 ghost use Rattle.saber_windowed.specs.Found.{part_of};
+ghost use Rattle.saber_windowed.specs.Sights.{Gives};
 ghost use Rattle.saber_windowed.specs.Open.{seen_windows, HoldsTask};
 
 use crate::picked::Picked;
 use crate::select::WindowedSelect;
+use saber_changes::Change;
 use saber_fragment::{Block, Piece};
-use saber_parts::{handed_of_windows, piece_of_windows};
+use saber_parts::{PartStore, handed_of_windows, piece_of_windows};
 use saber_plan::NoMemory;
 use saber_window::{Bounds, end_mark};
 use std::alloc::Global;
@@ -65,5 +73,32 @@ impl WindowedSelect<'_> {
         let _count = found.0.len();
         let piece = handed_of_windows(alloc, self, &bounds, found.0)?;
         Ok(piece)
+    }
+
+    /// Which of both it is, by what windows print.
+    pub(crate) fn given_of(
+        &self,
+        alloc: Global,
+        own: &Block,
+        change: Option<Change>,
+    ) -> Result<Piece<Picked>, NoMemory>
+        requires fits { RowsFit (tree_of self.now) own.now.before own.now.rows }
+        requires way { way (tree_of self.now) ≡ way_by change }
+        ensures { IfOk result (λ p. Gives (tree_of self.now) (shares_of part_of p) (own_sight own.now)) }
+    {
+        match change {
+            None => self.piece_of(alloc, own),
+            Some(_) => self.handed_of(alloc, own),
+        }
+    }
+
+    /// A store without a part, of windows that print their lines, or this change. Takes no memory.
+    pub(crate) fn no_parts(&self, alloc: Global, change: Option<Change>) -> PartStore<Picked>
+        requires { way (tree_of self.now) ≡ way_by change }
+        ensures contents { kept_by (parts_by part_of result.parts.entries) result.output ≡ nothing_kept }
+        ensures taken { HasTaken (tree_of self.now) result.output (going_on []) }
+    {
+        let _plan = &self.plan;
+        PartStore::new(alloc, change)
     }
 }

@@ -30,7 +30,7 @@ loop-list-preserved g c =
     record {
       can = tt;
       finite = tt;
-      left = λ xs taken. left_less q c.requires xs c.in-Some.list.items (own_of c.in-Some.kept) (seen_list c.next.new.self) (max c.in-Some.kept.next c.in-Some.kept.begun) before out c.close_list.new.out.items
+      left = λ xs taken. left_less q c.requires xs c.in-Some.list.items (own_of c.in-Some.kept) (seen_list c.next.new.self) (max c.in-Some.kept.windows.next c.in-Some.kept.begun) before out c.close_list.new.out.items
           refl c.in_ok-close_list.ensures.printed
           (subst (λ (l : List (ArrayVec ℤ × Keyed)). Left_to_print q xs (seen_list l) before out) rest (c.loop-list.invariant.left xs taken));
       behind = behind_both c.args.out.now.items c.loop-list.out.items c.close_list.new.out.items c.loop-list.invariant.behind c.close_list.ensures.behind;

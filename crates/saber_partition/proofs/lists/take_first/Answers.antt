@@ -25,7 +25,7 @@ take_row-requires g c =
       us q xs r p m comes,
       r,
       row_comes q xs r p m comes n.result.0 n.result.1 (n.ensures.low ∙ ap (λ f. closed_count f after) c.requires.windows) (n.ensures.past ∙ ap (λ f. begun_count f after) c.requires.windows),
-      keeps_first q xs r p m comes own.next own.begun own.parts.entries c.of_none-own.ensures.next c.of_none-own.ensures.begun c.of_none-own.ensures.parts c.requires.missing,
+      keeps_first q xs r p m comes own.windows.next own.begun own.windows.slices.entries c.of_none-own.ensures.next c.of_none-own.ensures.begun c.of_none-own.ensures.parts c.requires.missing,
     )
 
 pub returns-clause-came : goal.returns-clause-came
@@ -43,4 +43,4 @@ returns-clause-came g c xs r comes =
     row_came q xs r p m comes (own_of own) (lists_of c.insert.new.self.entries) c.args.out.now.items c.take_row.new.out.items new
     (c.in-Ok.ensures.came (us q xs r p m comes) r
     (row_comes q xs r p m comes n.result.0 n.result.1 (n.ensures.low ∙ ap (λ f. closed_count f after) c.requires.windows) (n.ensures.past ∙ ap (λ f. begun_count f after) c.requires.windows))
-    (keeps_first q xs r p m comes first.result.next first.result.begun first.result.parts.entries first.ensures.next first.ensures.begun first.ensures.parts c.requires.missing))
+    (keeps_first q xs r p m comes first.result.windows.next first.result.begun first.result.windows.slices.entries first.ensures.next first.ensures.begun first.ensures.parts c.requires.missing))

@@ -20,8 +20,8 @@ open_behind-requires-clause-low g c =
     let closed = c.closed_below-closed.ensures in
     subst (λ n. n ≤ c.max-low.result) (closed ∙ ap (closed_count (frame (tree_of c.args.self.now))) c.requires.meets) (omega (arith, least))
 
-pub take_slices-requires : goal.take_slices-requires
-take_slices-requires g c =
+pub take_slices-requires-clause-goes_on : goal.take_slices-requires-clause-goes_on
+take_slices-requires-clause-goes_on g c =
     let q = tree_of c.args.self.now in
     let e = c.args.earlier.now in
     let b = c.args.batch.now in
@@ -55,7 +55,7 @@ returns-in-Ok-take_slices-clause-gives g c old given end same =
     (c.in-Ok.ensures ∙ ap (take k) c.deref-2.ensures.value)
     (subst (λ l. AllByRecursion (λ (r : Slice). r.first ≤ low) (take k l)) c.deref.ensures.value c.closing_end-count.ensures.firsts)
     (subst (λ l. (r : Slice) → Some r ≡ slice_get l k → low ≤ r.first) c.deref.ensures.value c.closing_end-count.ensures.behind)
-    (c.in-Ok-take_slices.ensures.went_on e.before (e.rows ++ b.rows.now) (length e.rows) 0 (length b.rows.now) goes)
+    c.take_slices.new.output (c.in-Ok-take_slices.ensures.went_on e.before (e.rows ++ b.rows.now) (length e.rows) 0 (length b.rows.now) goes tt)
 
 pub returns-in-Ok-take_slices-clause-steps : goal.returns-in-Ok-take_slices-clause-steps
 returns-in-Ok-take_slices-clause-steps g c =

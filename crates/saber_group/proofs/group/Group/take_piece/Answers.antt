@@ -8,12 +8,12 @@ use Rattle.saber_group.proofs.PiecesTaken.{go_all, came}
 use Rattle.saber_group.proofs.GroupPlans.{has_window}
 use Rattle.saber_group.proofs.group.Group.take_piece.Goals as goal
 
-pub take_slices-requires : goal.take_slices-requires
-take_slices-requires g c =
+pub take_slices-requires-clause-goes_on : goal.take_slices-requires-clause-goes_on
+take_slices-requires-clause-goes_on g c =
     let q = tree_of c.args.self.now in
     let s = c.args.store.now in
     let slices = c.args.piece.slices.items in
-    let (old, rows, ended, h) = c.requires in (
+    let (old, rows, ended, h) = c.requires.comes in (
       no_rows,
       old ++ rows,
       length old,
@@ -23,22 +23,33 @@ take_slices-requires g c =
           (subst (λ (o : Option Complete). Comes q old rows ended s.next s.slices.entries slices o c.args.closed) c.in-None.is h),
     )
 
+pub take_complete-requires-clause-comes : goal.take_complete-requires-clause-comes
+take_complete-requires-clause-comes g c =
+    let q = tree_of c.args.self.now in
+    let s = c.args.store.now in
+    let (old, rows, ended, h) = c.requires.comes in
+    (c.args.closed, (old, rows, ended, subst (λ (o : Option Complete). Comes q old rows ended s.next s.slices.entries c.args.piece.slices.items o c.args.closed) c.in-Some.is h))
+
+pub take_complete-requires-clause-each : goal.take_complete-requires-clause-each
+take_complete-requires-clause-each g c = c.requires.answering c.in-Some.complete c.in-Some.is
+
 pub returns-in-None-clause-come : goal.returns-in-None-clause-come
 returns-in-None-clause-come h c =
     let q = tree_of c.args.self.now in
     let s = c.args.store.now in
     let slices = c.args.piece.slices.items in
-    on_ok_weaker c.take_slices.result (λ went old rows ended g.
+    let new = c.take_slices.new in
+    on_ok_weaker c.take_slices.result (λ went old rows ended g stands.
     let all = go_all q (has_window c.args.self.now c.self.view_is c.self.invariant.0 c.self.invariant.1).fits old rows ended s.next s.slices.entries slices c.args.closed (subst (λ (o : Option Complete). Comes q old rows ended s.next s.slices.entries slices o c.args.closed) c.in-None.is g) in
-    came q old rows s.next c.take_slices.new.store.slices.entries c.args.closed c.take_slices.new.store.next c.args.out.now.items c.take_slices.new.out.items (went no_rows (old ++ rows) (length old) 0 (length rows) all)) c.take_slices.ensures.went_on
+    came q old rows s.next new.store.slices.entries c.args.closed new.store.next c.args.output.now new.output c.args.out.now.items new.out.items (went no_rows (old ++ rows) (length old) 0 (length rows) all stands)) c.take_slices.ensures.went_on
 
 pub returns-in-Some-clause-come : goal.returns-in-Some-clause-come
 returns-in-Some-clause-come h c =
     let q = tree_of c.args.self.now in
     let s = c.args.store.now in
     let slices = c.args.piece.slices.items in
-    on_ok_weaker c.take_complete.result (λ went old rows ended g.
-    went c.args.closed old rows ended (subst (λ (o : Option Complete). Comes q old rows ended s.next s.slices.entries slices o c.args.closed) c.in-Some.is g)) c.take_complete.ensures.come
+    on_ok_weaker c.take_complete.result (λ went old rows ended g stands.
+    went c.args.closed old rows ended (subst (λ (o : Option Complete). Comes q old rows ended s.next s.slices.entries slices o c.args.closed) c.in-Some.is g) stands) c.take_complete.ensures.come
 
 pub returns-in-None-clause-steps : goal.returns-in-None-clause-steps
 returns-in-None-clause-steps g c =

@@ -1,10 +1,11 @@
-use Rattle.std.proofs.Common.{◌≡◌, ℕ, ◌+◌, ◌*◌, ◌≤◌, List, ◌++◌, length}
+use Rattle.std.proofs.Common.{◌≡◌, ℕ, ◌+◌, ◌*◌, ◌≤◌, List, length}
 use Rattle.std.specs.Vec.Iter.{into_iter_items}
 use Rattle.saber_plan.specs.declared.rows.Row.{Row}
 use Rattle.saber_plan.specs.declared.windows.Mark.{Mark}
 use Rattle.saber_plan.specs.Texts.{Behind}
 use Rattle.saber_plan.specs.Trees.{tree_of}
-use Rattle.saber_group.specs.SliceParts.{lines_between}
+use Rattle.saber_changes.specs.Outputs.{IsBefore, Passed, StandsIn}
+use Rattle.saber_group.specs.SliceParts.{answers_over}
 use Rattle.saber_group.specs.SliceStores.{GoesOn}
 use Rattle.saber_group.proofs.SlicesTaken.{Along}
 use Rattle.saber_group.proofs.group.Group.take_slices.Given as goal
@@ -13,10 +14,12 @@ abbrev pub invariant-loop-slice : goal.invariant-loop-slice
 invariant-loop-slice g l = record {
   can : (goal.iterator-loop-slice g).can_next l.slice-iterator;
   finite : (goal.iterator-loop-slice g).is_finite l.slice-iterator;
+  before : IsBefore l.output l.store.next;
   along : (m : Mark) (all : List Row) (o x y : ℕ) → GoesOn (tree_of l.fn.self) m all o x y l.fn.store.next l.fn.store.slices.entries l.fn.slices.items l.fn.closed
       → Along (tree_of l.fn.self) m all o y l.fn.store.next l.store.next l.store.slices.entries (into_iter_items l.slice-iterator) l.fn.closed;
-  text : (m : Mark) (all : List Row) (o x y : ℕ) → GoesOn (tree_of l.fn.self) m all o x y l.fn.store.next l.fn.store.slices.entries l.fn.slices.items l.fn.closed
-      → l.out.items ≡ l.fn.out.items ++ lines_between (tree_of l.fn.self) m all l.fn.store.next l.store.next;
+  passed : (m : Mark) (all : List Row) (o x y : ℕ) → GoesOn (tree_of l.fn.self) m all o x y l.fn.store.next l.fn.store.slices.entries l.fn.slices.items l.fn.closed
+      → StandsIn (answers_over (tree_of l.fn.self) m all) l.fn.output
+      → Passed (answers_over (tree_of l.fn.self) m all) l.fn.output l.output l.fn.store.next l.store.next l.fn.out.items l.out.items;
   steps : l.steps + l.store.slices.owed + l.fn.store.next + 2 * length (into_iter_items l.slice-iterator) ≤ l.fn.steps + l.fn.store.slices.owed + 2 * length l.fn.slices.items + l.store.next;
   behind : Behind l.fn.out.items l.out.items;
 }
