@@ -10,17 +10,17 @@ use Rattle.saber_query.specs.Trees.{query_of}
 use Rattle.saber_query.specs.Words.{words, Begins, IsSyntax, IsDeep}
 use Rattle.saber_query.specs.Real.{AllReal}
 use Rattle.saber_query.specs.Parsed.{Parsed}
-use Rattle.saber_query.specs.Lexing.{lexed_text}
+use Rattle.saber_query.specs.Longest.{Matches}
 use Rattle.saber_query.specs.Reading.{token_of}
 use Rattle.saber_query.specs.Means.{MeansTree, TextFault, StopsAt, byte_of, first_byte}
-use Rattle.saber_query.proofs.RealLemmas.{lexed_fine as tokens_are_real}
+use Rattle.saber_query.proofs.LongestLemmas.{same_placed, placed_or_bad, same_bad, placed_fine as tokens_are_real}
 use Rattle.saber_check.specs.declared.fault.Fault.{Fault}
 use Rattle.saber_check.specs.Least.{rank}
 use Rattle.saber_check.specs.First.{IsFirst, IsNoLater}
 use Rattle.saber_check.specs.Faults.{faults}
 use Rattle.saber_check.specs.Texts.{HasFault, FailsChecks, means_none, fails_checks}
 use Rattle.saber_check.proofs.FirstLaws.{ranks}
-use Rattle.saber_check.proofs.TextLaws.{same_tokens, same_query, means_or_not}
+use Rattle.saber_check.proofs.TextLaws.{same_query, means_or_not}
 
 -- one byte and one cause
 abbrev pub IsSame : ℕ → ℕ → Cause → Cause → Type 0
@@ -111,7 +111,7 @@ not_both before (t ∷ ts) h d = h.none 65 d.deeper
 
 data Wrong (c : Cause) (b : ℕ) (text : List ℕ) : Type 0 where
   long : c ≡ TooLong → 65536 < length text → b ≡ 65536 → Wrong c b text
-  no_tokens : length text ≤ 65536 → lexed_text text ≡ Err (At b c) → Wrong c b text
+  no_tokens : length text ≤ 65536 → Matches 0 text (Err (At b c)) → Wrong c b text
   unfit : c ≡ Syntax → StopsAt (IsSyntax 64) text b → Wrong c b text
   deep : c ≡ Depth → StopsAt (IsDeep 64) text b → Wrong c b text
 
@@ -134,8 +134,8 @@ wrong ExprTooWide b text f = absurd f
 wrong SumTooWide b text f = absurd f
 
 -- two stops of one text are one
-same_stop : (text : List ℕ) (xs ys us vs : List Placed) → lexed_text text ≡ Ok (xs ++ ys) → lexed_text text ≡ Ok (us ++ vs) → Stops (map token_of xs) (map token_of ys) → Stops (map token_of us) (map token_of vs) → (xs ≡ us) × (ys ≡ vs)
-same_stop text xs ys us vs e f s z = stop_once xs ys us vs (tokens_are_real text (us ++ vs) f).1 (same_tokens text (xs ++ ys) (us ++ vs) e f) s z
+same_stop : (text : List ℕ) (xs ys us vs : List Placed) → Matches 0 text (Ok (xs ++ ys)) → Matches 0 text (Ok (us ++ vs)) → Stops (map token_of xs) (map token_of ys) → Stops (map token_of us) (map token_of vs) → (xs ≡ us) × (ys ≡ vs)
+same_stop text xs ys us vs e f s z = stop_once xs ys us vs (tokens_are_real text (us ++ vs) f).1 (same_placed text (xs ++ ys) (us ++ vs) e f) s z
 
 same_place : (text : List ℕ) (ys vs : List Placed) (b d : ℕ) → ys ≡ vs → b ≡ first_byte ys (length text) → d ≡ first_byte vs (length text) → b ≡ d
 same_place text ys vs b d h e f = e ∙ ap (λ l. first_byte l (length text)) h ∙ sym f
@@ -145,29 +145,23 @@ split_clash text b d f g =
     let s = same_stop text f.before f.rest g.before g.rest f.lexed g.lexed (syntax_stops (map token_of f.before) (map token_of f.rest) f.there) (deep_stops (map token_of g.before) (map token_of g.rest) g.there) in
     not_both (map token_of g.before) (map token_of g.rest) (subst (λ l. IsSyntax 64 (map token_of g.before) (map token_of l)) s.1 (subst (λ l. IsSyntax 64 (map token_of l) (map token_of f.rest)) s.0 f.there)) g.there
 
-lexed_clash : (text : List ℕ) (b : ℕ) (c : Cause) (ps : List Placed) → lexed_text text ≡ Err (At b c) → lexed_text text ≡ Ok ps → ⊥
-lexed_clash text b c ps e f = cc
-
 one_wrong : (text : List ℕ) (b d : ℕ) (c e : Cause) → Wrong c b text → Wrong e d text → IsSame b d c e
 one_wrong text b d c e (long h l p) (long k m q) = (p ∙ sym q, h ∙ sym k)
 one_wrong text b d c e (long h l p) (no_tokens k m) = absurd (omega (arith, l, k))
 one_wrong text b d c e (long h l p) (unfit k m) = let n : length text ≤ 65536 = m.short in absurd (omega (arith, l, n))
 one_wrong text b d c e (long h l p) (deep k m) = let n : length text ≤ 65536 = m.short in absurd (omega (arith, l, n))
 one_wrong text b d c e (no_tokens h l) (long k m q) = absurd (omega (arith, h, m))
-one_wrong text b d c e (no_tokens h l) (no_tokens k m) =
-    let place : b ≡ d = cc in
-    let cause : c ≡ e = cc in
-    (place, cause)
-one_wrong text b d c e (no_tokens h l) (unfit k m) = absurd (lexed_clash text b c (m.before ++ m.rest) l m.lexed)
-one_wrong text b d c e (no_tokens h l) (deep k m) = absurd (lexed_clash text b c (m.before ++ m.rest) l m.lexed)
+one_wrong text b d c e (no_tokens h l) (no_tokens k m) = same_bad text b d c e l m
+one_wrong text b d c e (no_tokens h l) (unfit k m) = absurd (placed_or_bad text (m.before ++ m.rest) b c m.lexed l)
+one_wrong text b d c e (no_tokens h l) (deep k m) = absurd (placed_or_bad text (m.before ++ m.rest) b c m.lexed l)
 one_wrong text b d c e (unfit h l) (long k m q) = let n : length text ≤ 65536 = l.short in absurd (omega (arith, m, n))
-one_wrong text b d c e (unfit h l) (no_tokens k m) = absurd (lexed_clash text d e (l.before ++ l.rest) m l.lexed)
+one_wrong text b d c e (unfit h l) (no_tokens k m) = absurd (placed_or_bad text (l.before ++ l.rest) d e l.lexed m)
 one_wrong text b d c e (unfit h l) (unfit k m) =
     let s = same_stop text l.before l.rest m.before m.rest l.lexed m.lexed (syntax_stops (map token_of l.before) (map token_of l.rest) l.there) (syntax_stops (map token_of m.before) (map token_of m.rest) m.there) in
     (same_place text l.rest m.rest b d s.1 l.place m.place, h ∙ sym k)
 one_wrong text b d c e (unfit h l) (deep k m) = absurd (split_clash text b d l m)
 one_wrong text b d c e (deep h l) (long k m q) = let n : length text ≤ 65536 = l.short in absurd (omega (arith, m, n))
-one_wrong text b d c e (deep h l) (no_tokens k m) = absurd (lexed_clash text d e (l.before ++ l.rest) m l.lexed)
+one_wrong text b d c e (deep h l) (no_tokens k m) = absurd (placed_or_bad text (l.before ++ l.rest) d e l.lexed m)
 one_wrong text b d c e (deep h l) (unfit k m) = absurd (split_clash text d b m l)
 one_wrong text b d c e (deep h l) (deep k m) =
     let s = same_stop text l.before l.rest m.before m.rest l.lexed m.lexed (deep_stops (map token_of l.before) (map token_of l.rest) l.there) (deep_stops (map token_of m.before) (map token_of m.rest) m.there) in
@@ -217,7 +211,7 @@ one_first fs f g h k = both_first f g (h.first g k.there) (k.first f h.there)
 one_failure : (text : List ℕ) (b d : ℕ) (c e : Cause) → FailsChecks text b c → FailsChecks text d e → IsSame b d c e
 one_failure text b d c e f g =
     let same : query_of f.query.select ≡ query_of g.query.select = same_query text f.query g.query f.means g.means in
-    let starts : f.query.starts ≡ g.query.starts = f.means.starts ∙ ap (map byte_of) (same_tokens text f.means.placed g.means.placed f.means.lexed g.means.lexed) ∙ sym g.means.starts in
+    let starts : f.query.starts ≡ g.query.starts = f.means.starts ∙ ap (map byte_of) (same_placed text f.means.placed g.means.placed f.means.lexed g.means.lexed) ∙ sym g.means.starts in
     let p : Fault = record { index = f.fails.index; cause = c } in
     let r : Fault = record { index = g.fails.index; cause = e } in
     let h = one_first (faults (query_of g.query.select)) p r (subst (λ q. IsFirst p (faults q)) same f.fails.first) g.fails.first in

@@ -19,4 +19,4 @@ pub mod SettledLaws
 pub mod TextLaws
 pub mod FaultLaws
 pub mod FrontLaws
-mod PlanOrFault
+pub mod PlanOrFault

@@ -17,7 +17,7 @@ use Rattle.saber_check.proofs.WalkedLaws.{same_faults}
 use Rattle.saber_check.proofs.WidthLaws.{words_count}
 use Rattle.saber_check.proofs.IndexLaws.{fault_inside}
 
-abbrev Has : List ℕ → Type 0
+abbrev pub Has : List ℕ → Type 0
 Has text = ((tree : Tree) × HasPlan text tree) ⊎ ((byte : ℕ) × (cause : Cause) × HasFault text byte cause)
 
 by_least : (text : List ℕ) (p : Parsed) → IsParsed p.select p.starts → MeansTree text p → (o : Option Fault) → least (faults (query_of p.select)) ≡ o → Has text

@@ -10,28 +10,25 @@ use Rattle.saber_query.specs.Trees.{Query, query_of, depth}
 use Rattle.saber_query.specs.Words.{words, Begins, Unfit, IsDeep}
 use Rattle.saber_query.specs.Real.{AllReal}
 use Rattle.saber_query.specs.Parsed.{Parsed}
-use Rattle.saber_query.specs.Lexing.{lexed_text}
+use Rattle.saber_query.specs.Longest.{Matches}
 use Rattle.saber_query.specs.Reading.{token_of}
 use Rattle.saber_query.specs.Means.{MeansTree, TextFault}
+use Rattle.saber_query.proofs.LongestLemmas.{same_placed, placed_or_bad}
 use Rattle.saber_query.proofs.Unique.{one_tree as words_have_one_tree}
 use Rattle.saber_check.specs.Plans.{plan_tree}
 use Rattle.saber_check.specs.Outcome.{IsFaultless}
 use Rattle.saber_check.specs.Texts.{HasPlan, HasFault, means_none, fails_checks}
 
--- a text has one list of tokens
-pub same_tokens : (text : List ℕ) (a b : List Placed) → lexed_text text ≡ Ok a → lexed_text text ≡ Ok b → a ≡ b
-same_tokens text a b e h = cc
-
 pub same_query : (text : List ℕ) (p r : Parsed) → MeansTree text p → MeansTree text r → query_of p.select ≡ query_of r.select
-same_query text p r m n = words_have_one_tree (query_of p.select) (query_of r.select) (m.words ∙ ap (map token_of) (same_tokens text m.placed n.placed m.lexed n.lexed) ∙ sym n.words)
+same_query text p r m n = words_have_one_tree (query_of p.select) (query_of r.select) (m.words ∙ ap (map token_of) (same_placed text m.placed n.placed m.lexed n.lexed) ∙ sym n.words)
 
 real_behind : (xs ys : List Token) → AllReal (xs ++ ys) → AllReal ys
 real_behind [] ys a = a
 real_behind (x ∷ xs) ys a = real_behind xs ys a.1
 
 -- the words of a tree that a text means are what comes before a stop and what comes after
-split_words : (text : List ℕ) (p : Parsed) (before rest : List Placed) → MeansTree text p → lexed_text text ≡ Ok (before ++ rest) → words (query_of p.select) ≡ map token_of before ++ map token_of rest
-split_words text p before rest m e = m.words ∙ ap (map token_of) (same_tokens text m.placed (before ++ rest) m.lexed e) ∙ map-append token_of before rest
+split_words : (text : List ℕ) (p : Parsed) (before rest : List Placed) → MeansTree text p → Matches 0 text (Ok (before ++ rest)) → words (query_of p.select) ≡ map token_of before ++ map token_of rest
+split_words text p before rest m e = m.words ∙ ap (map token_of) (same_placed text m.placed (before ++ rest) m.lexed e) ∙ map-append token_of before rest
 
 -- so with the next token they begin a tree
 begins : (d : ℕ) (q : Query) (before : List Token) (t : Token) (rest : List Token) → AllReal (words q) → words q ≡ before ++ t ∷ rest → depth q ≤ d → Begins d (before ++ t ∷ [])
@@ -49,8 +46,8 @@ shallow q before (t ∷ rest) a e h d = d.none (begins 64 q before t rest a e h)
 
 pub means_or_not : (c : Cause) (b : ℕ) (text : List ℕ) (p : Parsed) → AllReal (words (query_of p.select)) → MeansTree text p → TextFault c b text → ⊥
 means_or_not TooLong b text p i m f = omega (arith, f.0, m.short)
-means_or_not BadByte b text p i m f = cc
-means_or_not NumberRange b text p i m f = cc
+means_or_not BadByte b text p i m f = placed_or_bad text m.placed b BadByte m.lexed f.1
+means_or_not NumberRange b text p i m f = placed_or_bad text m.placed b NumberRange m.lexed f.1
 means_or_not Syntax b text p i m f = fits (query_of p.select) (map token_of f.before) (map token_of f.rest) i (split_words text p f.before f.rest m f.lexed) f.there.none
 means_or_not Depth b text p i m f = shallow (query_of p.select) (map token_of f.before) (map token_of f.rest) i (split_words text p f.before f.rest m f.lexed) m.shallow f.there
 means_or_not DuplicateName b text p i m f = f

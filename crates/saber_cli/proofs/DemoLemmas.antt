@@ -35,7 +35,7 @@ use Rattle.saber_plan.specs.Runs.{Assembles, reach_of}
 use Rattle.saber_notes.specs.declared.outcome.Outcome.{Outcome}
 use Rattle.saber_notes.specs.declared.outcome.Outcome.TheVariants.{Done, Usage, FileCount, QueryFault, SecondQueryFault, Unchainable, LineRefused, ChainLineRefused, OpenFault, ReadFault, TooWide, WriteFault, NoMemory}
 use Rattle.saber_cli.specs.Due.{Contents, Due, usage, missing, faulty, unlike, shows, tells, runs, IsDueFor}
-use Rattle.saber_cli.specs.Causes.{HasCause, Allows}
+use Rattle.saber_cli.specs.Causes.{Allows}
 use Rattle.saber_cli.specs.Puts.{HasTasks, IsOfPut, PutsOut, PutsText, no_text}
 use Rattle.saber_cli.specs.Gives.{Gives}
 use Rattle.saber_cli.specs.Leaves.{Matches}
@@ -43,6 +43,7 @@ use Rattle.saber_cli.specs.Leaving.{LeavesTold}
 use Rattle.saber_cli.specs.Unread.{unread}
 use Rattle.saber_cli.specs.Demo.{generated_input, summary_of_run, tasks_of_run}
 use Rattle.saber_cli.specs.Tells.{IsAnswer, IsWholeOrLacks, TellsRun}
+use Rattle.saber_cli.proofs.SomeDue.{some_due}
 use Rattle.saber_cli.proofs.LeavesLemmas.{none_left}
 
 -- ---- the input and its tasks
@@ -186,21 +187,6 @@ tell_leaves c d o old is k = subst (λ (a : Asked). LeavesTold a o old old) (sym
 
 -- ---- what is due
 
-tell_cause : (due : Due → Type 0) (text : List ℕ) (count : ℕ) (o : Outcome) → IsOfPut o → due (tells text count) → HasCause due o
-tell_cause due text count Done k t = inr (inr ((text, count, t)))
-tell_cause due text count Usage k t = absurd k
-tell_cause due text count (SecondQueryFault place why) k t = absurd k
-tell_cause due text count (Unchainable which) k t = absurd k
-tell_cause due text count (ChainLineRefused place why) k t = absurd k
-tell_cause due text count (FileCount s g) k t = absurd k
-tell_cause due text count (QueryFault b c) k t = absurd k
-tell_cause due text count (LineRefused s n c) k t = absurd k
-tell_cause due text count (OpenFault f) k t = absurd k
-tell_cause due text count (ReadFault f) k t = absurd k
-tell_cause due text count (TooWide t' n r) k t = absurd k
-tell_cause due text count WriteFault k t = inr (inr ((text, count, t)))
-tell_cause due text count NoMemory k t = tt
-
 tell_allows : (text : List ℕ) (count : ℕ) (o : Outcome) → IsOfPut o → Allows (tells text count) o
 tell_allows text count Done k = inl refl
 tell_allows text count Usage k = absurd k
@@ -237,7 +223,7 @@ demo_puts files d o tasks out (runs q n ring flush read) p t h = absurd h
 -- whatever the files, the summary is due
 pub gives_told : (files : Contents) (d : AskedDemo) (o : Outcome) (tasks : ℕ) (out : List ℕ) → IsOfPut o → PutsText (summary_of_run d.seed d.rows) o out → HasTasks (tasks_of_run d) tasks o → Gives files (demo d) o tasks out
 gives_told files d o tasks out k p t = record {
-  cause = tell_cause (IsDueFor files (demo d)) (summary_of_run d.seed d.rows) (tasks_of_run d) o k (refl, refl);
+  something = some_due files (demo d) tt;
   allows = λ due h. demo_allowed files d o due k h;
   puts = λ due h. demo_puts files d o tasks out due p t h;
 }

@@ -5,6 +5,7 @@ pub mod RowLemmas
 pub mod LeavesLemmas
 pub mod TakenLemmas
 pub mod DueLemmas
+pub mod SomeDue
 pub mod RunLemmas
 pub mod ShowLemmas
 pub mod WriteLemmas

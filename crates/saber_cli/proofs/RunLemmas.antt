@@ -20,11 +20,12 @@ use Rattle.saber_cli.specs.Endings.{EndsSo}
 use Rattle.saber_cli.specs.Answered.{Answered, AnsweredIn}
 use Rattle.saber_cli.specs.Planned.{IsTextFault}
 use Rattle.saber_cli.specs.Leaving.{AsksFile}
-use Rattle.saber_cli.specs.Due.{Contents, Due, usage, missing, faulty, unlike, shows, tells, runs, IsDueFor, HasRun, IsLike, no_query, no_rows, row_names, contents_of}
-use Rattle.saber_cli.specs.Causes.{HasCause, Allows, Ends}
+use Rattle.saber_cli.specs.Due.{Contents, Due, usage, missing, faulty, unlike, shows, tells, runs, IsDueFor, HasRun, IsLike, row_names, contents_of}
+use Rattle.saber_cli.specs.Causes.{Allows}
 use Rattle.saber_cli.specs.Puts.{PutsOut}
 use Rattle.saber_cli.specs.Gives.{Gives}
 use Rattle.saber_cli.proofs.LeavesLemmas.{IsRefused}
+use Rattle.saber_cli.proofs.SomeDue.{some_due, no_chain}
 use Rattle.saber_cli.proofs.DueLemmas.{HasQuery, early_puts, lacks_allowed, run_plan, run_or_fault, same_refusal, there_not_missing, begun_plan, begun_fault}
 
 -- ---- sizes
@@ -80,25 +81,10 @@ no_end_early (TooWide t n r) h = absurd h
 no_end_early WriteFault h = absurd h
 no_end_early NoMemory h = tt
 
-no_end_cause : (due : Due → Type 0) (o : Outcome) → IsNoEnd o → HasCause due o
-no_end_cause due Done h = absurd h
-no_end_cause due Usage h = absurd h
-no_end_cause due (SecondQueryFault place why) h = absurd h
-no_end_cause due (Unchainable which) h = absurd h
-no_end_cause due (ChainLineRefused place why) h = absurd h
-no_end_cause due (FileCount s g) h = absurd h
-no_end_cause due (QueryFault b c) h = absurd h
-no_end_cause due (LineRefused s n c) h = absurd h
-no_end_cause due (OpenFault f) h = tt
-no_end_cause due (ReadFault f) h = tt
-no_end_cause due (TooWide t n r) h = absurd h
-no_end_cause due WriteFault h = absurd h
-no_end_cause due NoMemory h = tt
-
 -- a query file that could not be read, or memory that lacked
 pub gives_no_text : (files : Contents) (c : Asked) → HasQuery c → (o : Outcome) → IsOfQuery o → Gives files c o 0 []
 gives_no_text files c a o h = record {
-  cause = no_end_cause (IsDueFor files c) o (query_no_end o h);
+  something = some_due files c (no_chain c a);
   allows = λ d k. lacks_allowed files c o d a (query_lacks o h) k;
   puts = λ d k. early_puts files c o d (no_end_early o (query_no_end o h)) k;
 }
@@ -108,8 +94,8 @@ gives_no_text files c a o h = record {
 -- a query file that is there, with a text that has this fault
 refused_allowed : (files : Contents) (r : AskedRun) (whole : List ℕ) (byte : ℕ) (cause : Cause) (d : Due) → content_in files r.query ≡ Some whole → HasFault whole byte cause → IsDueFor files (run r) d → Allows d (QueryFault byte cause)
 refused_allowed files r whole byte cause usage e f d = absurd d
-refused_allowed files r whole byte cause missing e f (no_query m) = absurd (there_not_missing files r.query whole e m)
-refused_allowed files r whole byte cause missing e f (no_rows asked q s h l m) = let same : run r ≡ run asked = s in let same_run : r ≡ asked = cc in absurd (run_or_fault files r q whole byte cause (subst (λ a. HasRun files a q) (sym same_run) h) e f)
+refused_allowed files r whole byte cause missing e f (inl m) = absurd (there_not_missing files r.query whole e m)
+refused_allowed files r whole byte cause missing e f (inr m) = absurd (run_or_fault files r m.0 whole byte cause m.1 e f)
 refused_allowed files r whole byte cause (tells t n) e f d = absurd d
 refused_allowed files r whole byte cause (faulty b k) e f d =
     let same : d.0 ≡ whole = let g : Some d.0 ≡ Some whole = sym d.1 ∙ e in cc in
@@ -120,7 +106,7 @@ refused_allowed files r whole byte cause (runs q size ring flush read) e f d = a
 
 gives_refusal : (files : Contents) (r : AskedRun) (whole : List ℕ) (byte : ℕ) (cause : Cause) → content_in files r.query ≡ Some whole → HasFault whole byte cause → Gives files (run r) (QueryFault byte cause) 0 []
 gives_refusal files r whole byte cause e f = record {
-  cause = (whole, e, f);
+  something = some_due files (run r) tt;
   allows = λ d k. refused_allowed files r whole byte cause d e f k;
   puts = λ d k. early_puts files (run r) (QueryFault byte cause) d tt k;
 }
@@ -177,11 +163,8 @@ like_again files r p q u h l = subst (IsLike r) (run_is files r p q u h) l
 
 unlike_allowed : (files : Contents) (r : AskedRun) (p : Tree) (d : Due) → HasRun files r p → (IsLike r p → ⊥) → IsDueFor files (run r) d → Allows d (FileCount (length p.streams) (length (row_names r)))
 unlike_allowed files r p usage u n d = absurd d
-unlike_allowed files r p missing u n (no_query m) = absurd (there_not_missing files r.query u.text u.there m)
-unlike_allowed files r p missing u n (no_rows asked q s h l m) =
-    let s' : run r ≡ run asked = s in
-    let same : r ≡ asked = cc in
-    absurd (n (like_again files r p q u (subst (λ a. HasRun files a q) (sym same) h) (subst (λ a. IsLike a q) (sym same) l)))
+unlike_allowed files r p missing u n (inl m) = absurd (there_not_missing files r.query u.text u.there m)
+unlike_allowed files r p missing u n (inr m) = absurd (n (like_again files r p m.0 u m.1 m.2))
 unlike_allowed files r p (tells t k) u n d = absurd d
 unlike_allowed files r p (faulty b k) u n d = absurd (not_faulty files r p b k u d)
 unlike_allowed files r p (unlike s g) u n d =
@@ -192,7 +175,7 @@ unlike_allowed files r p (runs q size ring flush read) u n d = absurd (n (like_a
 
 pub gives_unlike : (files : Contents) (r : AskedRun) (p : Tree) → HasRun files r p → (IsLike r p → ⊥) → Gives files (run r) (FileCount (length p.streams) (length (row_names r))) 0 []
 gives_unlike files r p u n = record {
-  cause = (p, u, refl, refl, n);
+  something = some_due files (run r) tt;
   allows = λ d k. unlike_allowed files r p d u n k;
   puts = λ d k. early_puts files (run r) (FileCount (length p.streams) (length (row_names r))) d tt k;
 }
@@ -213,47 +196,19 @@ record Over (files : Contents) (r : AskedRun) (p : Tree) (all : List (List ℕ))
   like : IsLike r p
   there : contents_of files (row_names r) ≡ Some all
 
--- what is due of it
-over_due : (files : Contents) (r : AskedRun) (p : Tree) (all : List (List ℕ)) → Over files r p all → IsDueFor files (run r) (runs p r.sizes.task r.sizes.ring r.sizes.flush (input_of p (limits_of r.sizes) all))
-over_due files r p all u = (all, u.has, u.like, u.there, record { task = refl; cells = refl; closes = refl }, refl)
-
 -- and nothing else is
 due_is : (files : Contents) (r : AskedRun) (p : Tree) (all : List (List ℕ)) (q : Tree) (n ring : ℕ) (flush : Bool) (read : Read) → Over files r p all → IsDueFor files (run r) (runs q n ring flush read) → runs p r.sizes.task r.sizes.ring r.sizes.flush (input_of p (limits_of r.sizes) all) ≡ runs q n ring flush read
 due_is files r p all q n ring flush read u d =
     let same : q ≡ p = run_is files r p q u.has d.1 in
     let f : Some d.0 ≡ Some all = sym d.3 ∙ u.there in
     let same_all : d.0 ≡ all = cc in
-    let rows : read ≡ input_of p (limits_of r.sizes) all = d.5 ∙ (λ i. input_of (same i) (limits_of r.sizes) (same_all i)) in
-    sym (λ i. runs (same i) (d.4.task i) (d.4.cells i) (d.4.closes i) (rows i))
+    let rows : read ≡ input_of p (limits_of r.sizes) all = d.7 ∙ (λ i. input_of (same i) (limits_of r.sizes) (same_all i)) in
+    sym (λ i. runs (same i) (d.4 i) (d.5 i) (d.6 i) (rows i))
 
 -- no file is missing
 over_there : (files : Contents) (r : AskedRun) (p : Tree) (all : List (List ℕ)) → Over files r p all → IsDueFor files (run r) missing → ⊥
-over_there files r p all u (no_query m) = there_not_missing files r.query u.has.text u.has.there m
-over_there files r p all u (no_rows asked q s h l m) =
-    let s' : run r ≡ run asked = s in
-    let same : r ≡ asked = cc in
-    let n : contents_of files (row_names r) ≡ None = subst (λ a. contents_of files (row_names a) ≡ None) (sym same) m in
-    let clash : Some all ≡ None = sym u.there ∙ n in
-    cc
-
--- its cause
-over_ends : (files : Contents) (r : AskedRun) (p : Tree) (all : List (List ℕ)) (o : Outcome) → Over files r p all → EndsSo p r.sizes.task r.sizes.ring r.sizes.flush (input_of p (limits_of r.sizes) all) o → Ends (IsDueFor files (run r)) o
-over_ends files r p all o u f = record { plan = p; task = r.sizes.task; ring = r.sizes.ring; flush = r.sizes.flush; read = input_of p (limits_of r.sizes) all; is_due = over_due files r p all u; ends = f }
-
-run_cause : (due : Due → Type 0) (o : Outcome) → IsOfRun o → Ends due o → HasCause due o
-run_cause due Done k f = inl f
-run_cause due Usage k f = absurd k
-run_cause due (SecondQueryFault place why) k f = absurd k
-run_cause due (Unchainable which) k f = absurd k
-run_cause due (ChainLineRefused place why) k f = absurd k
-run_cause due (FileCount s g) k f = absurd k
-run_cause due (QueryFault b x) k f = absurd k
-run_cause due (LineRefused s n x) k f = f
-run_cause due (OpenFault file) k f = tt
-run_cause due (ReadFault file) k f = tt
-run_cause due (TooWide t n r) k f = f
-run_cause due WriteFault k f = inl f
-run_cause due NoMemory k f = tt
+over_there files r p all u (inl m) = there_not_missing files r.query u.has.text u.has.there m
+over_there files r p all u (inr m) = let clash : Some all ≡ None = sym u.there ∙ m.3 in cc
 
 run_allows : (o : Outcome) (q : Tree) (n ring : ℕ) (flush : Bool) (read : Read) → IsOfRun o → EndsSo q n ring flush read o → Allows (runs q n ring flush read) o
 run_allows Done q n ring flush read k f = inl (tt, f)
@@ -290,7 +245,7 @@ over_puts files r p all o tasks out (runs q n ring flush read) u a d = subst (λ
 
 over_gives : (files : Contents) (r : AskedRun) (p : Tree) (all : List (List ℕ)) (o : Outcome) (tasks : ℕ) (out : List ℕ) → Over files r p all → IsOfRun o → Answered p r.sizes.task r.sizes.ring r.sizes.flush (input_of p (limits_of r.sizes) all) o tasks out → Gives files (run r) o tasks out
 over_gives files r p all o tasks out u k a = record {
-  cause = run_cause (IsDueFor files (run r)) o k (over_ends files r p all o u a.ends);
+  something = some_due files (run r) tt;
   allows = λ d x. over_allowed files r p all o d u k a.ends x;
   puts = λ d x. over_puts files r p all o tasks out d u a.puts x;
 }
@@ -323,7 +278,7 @@ gone_allowed files r p o (runs q n ring flush read) u l e h d = let clash : Some
 
 gone_gives : (files : Contents) (r : AskedRun) (p : Tree) (o : Outcome) (tasks : ℕ) (out : List ℕ) → HasRun files r p → IsLike r p → contents_of files (row_names r) ≡ None → IsNoEnd o → tasks ≡ 0 → out ≡ [] → Gives files (run r) o tasks out
 gone_gives files r p o tasks out u l e h t n = subst (λ x. Gives files (run r) o x out) (sym t) (subst (Gives files (run r) o 0) (sym n) (record {
-  cause = no_end_cause (IsDueFor files (run r)) o h;
+  something = some_due files (run r) tt;
   allows = λ d k. gone_allowed files r p o d u l e h k;
   puts = λ d k. early_puts files (run r) o d (no_end_early o h) k;
 }))

@@ -1,23 +1,22 @@
 -- What a check gives, from what became of its query's text.
-use Rattle.std.proofs.Common.{◌≡◌, ◌⊎◌, inl, inr, ◌≤◌, ℕ, List, [], ◌∷◌, ◌++◌, length, map, take, Some, Ok, refl, sym, ◌∙◌, ap, subst, arith}
+use Rattle.std.proofs.Common.{◌≡◌, ◌⊎◌, inl, inr, ◌≤◌, ℕ, List, [], ◌∷◌, ◌++◌, length, map, take, Some, refl, sym, ◌∙◌, ap, subst, arith}
 use Rattle.std.proofs.lemmas.List.{take_all}
 use Rattle.saber_io.specs.Outside.{content_in}
 use Rattle.saber_query.specs.declared.token.Token.{Token}
-use Rattle.saber_query.specs.declared.token.Placed.{Placed}
 use Rattle.saber_query.specs.declared.fault.Cause.{Cause}
 use Rattle.saber_query.specs.declared.fault.QueryFault.{QueryFault as Fault}
 use Rattle.saber_query.specs.declared.fault.QueryFault.TheVariants as fault
 use Rattle.saber_query.specs.Parsed.{Parsed}
 use Rattle.saber_query.specs.Trees.{query_of}
 use Rattle.saber_query.specs.Words.{words}
-use Rattle.saber_query.specs.Lexing.{lexed_text}
 use Rattle.saber_query.specs.Reading.{token_of}
 use Rattle.saber_query.specs.Means.{MeansTree}
 use Rattle.saber_query.specs.Spelling.{spelled_text}
+use Rattle.saber_query.proofs.LongestLemmas.{same_placed}
 use Rattle.saber_check.specs.Plans.{plan_tree}
 use Rattle.saber_check.specs.Outcome.{IsFaultOf}
 use Rattle.saber_check.specs.Texts.{HasPlan, HasFault, fails_checks, IsFaultIn}
-use Rattle.saber_words.specs.Commands.{run, check, AskedCheck}
+use Rattle.saber_words.specs.Commands.{check, AskedCheck}
 use Rattle.saber_notes.specs.declared.outcome.Outcome.{Outcome}
 use Rattle.saber_notes.specs.declared.outcome.Outcome.TheVariants.{Done, Usage, FileCount, QueryFault, SecondQueryFault, Unchainable, LineRefused, ChainLineRefused, OpenFault, ReadFault, TooWide, WriteFault, NoMemory}
 use Rattle.saber_check.proofs.FaultLaws.{one_fault}
@@ -26,12 +25,13 @@ use Rattle.saber_check.proofs.TextLaws.{fault_or_plan}
 use Rattle.saber_cli.specs.Outcomes.{IsBeforeRun, IsFileFault, IsQueryFault, IsOfShow}
 use Rattle.saber_cli.specs.Texts.{BeginsFile}
 use Rattle.saber_cli.specs.Planned.{IsTextFault}
-use Rattle.saber_cli.specs.Due.{Contents, Due, usage, missing, faulty, unlike, shows, tells, runs, IsDueFor, IsMissing, no_query, no_rows, Shows}
-use Rattle.saber_cli.specs.Causes.{HasCause, Allows}
+use Rattle.saber_cli.specs.Due.{Contents, Due, usage, missing, faulty, unlike, shows, tells, runs, IsDueFor, Shows}
+use Rattle.saber_cli.specs.Causes.{Allows}
 use Rattle.saber_cli.specs.Puts.{PutsOut, IsOfPut, PutsText, whole_text, part, no_text}
 use Rattle.saber_cli.specs.Gives.{Gives}
 use Rattle.saber_cli.specs.Shown.{Showed, all_shown, cut_short, not_shown}
 use Rattle.saber_cli.proofs.DueLemmas.{there_not_missing, same_refusal, begun_fault, early_puts}
+use Rattle.saber_cli.proofs.SomeDue.{some_due}
 use Rattle.saber_cli.proofs.RunLemmas.{gives_no_text}
 
 -- ---- a query that fails its checks
@@ -63,9 +63,6 @@ begun_shows files name text out b s = (b.whole, b.there, front_shows b.whole out
 shows_or_fault : (text out : List ℕ) (byte : ℕ) (cause : Cause) → Shows text out → HasFault text byte cause → ⊥
 shows_or_fault text out byte cause s f = fault_or_plan text byte cause (plan_tree (query_of s.query.select)) f (plan_of_shows text out s)
 
-same_placed : (text : List ℕ) (a b : List Placed) → lexed_text text ≡ Ok a → lexed_text text ≡ Ok b → a ≡ b
-same_placed text a b e h = cc
-
 same_words : (text : List ℕ) (p r : Parsed) → MeansTree text p → MeansTree text r → words (query_of p.select) ≡ words (query_of r.select)
 same_words text p r m n = m.words ∙ ap (map token_of) (same_placed text m.placed n.placed m.lexed n.lexed) ∙ sym n.words
 
@@ -75,9 +72,8 @@ one_text text out other s t = s.out_is ∙ ap (λ (ws : List Token). spelled_tex
 
 -- ---- what is due for a check
 
-not_missing : (files : Contents) (c : AskedCheck) (whole : List ℕ) → content_in files c.query ≡ Some whole → IsMissing files c.query (check c) → ⊥
-not_missing files c whole e (no_query m) = there_not_missing files c.query whole e m
-not_missing files c whole e (no_rows asked q s h l m) = let s' : check c ≡ run asked = s in cc
+not_missing : (files : Contents) (c : AskedCheck) (whole : List ℕ) → content_in files c.query ≡ Some whole → IsDueFor files (check c) missing → ⊥
+not_missing files c whole e m = there_not_missing files c.query whole e m
 
 -- a fault that is due is that of the query's text
 due_fault : (files : Contents) (c : AskedCheck) (whole : List ℕ) (byte : ℕ) (cause : Cause) → content_in files c.query ≡ Some whole → IsDueFor files (check c) (faulty byte cause) → HasFault whole byte cause
@@ -92,10 +88,6 @@ due_shows files c whole out e d =
     subst (λ t. Shows t out) same d.2
 
 -- ---- a text that is shown
-
-shown_cause : (due : Due → Type 0) (o : Outcome) (shown : List ℕ) → due (shows shown) → (o ≡ Done) ⊎ (o ≡ WriteFault) → HasCause due o
-shown_cause due o shown s (inl e) = subst (HasCause due) (sym e) (inr (inl ((shown, s))))
-shown_cause due o shown s (inr e) = subst (HasCause due) (sym e) (inr (inl ((shown, s))))
 
 shown_allowed : (files : Contents) (c : AskedCheck) (whole shown : List ℕ) (o : Outcome) (d : Due) → content_in files c.query ≡ Some whole → Shows whole shown → (o ≡ Done) ⊎ (o ≡ WriteFault) → IsDueFor files (check c) d → Allows d o
 shown_allowed files c whole shown o usage e s k d = absurd d
@@ -118,7 +110,7 @@ shown_puts files c whole shown o out (runs q n ring flush read) e s p d = absurd
 
 gives_shown : (files : Contents) (c : AskedCheck) (whole shown : List ℕ) (o : Outcome) (out : List ℕ) → content_in files c.query ≡ Some whole → Shows whole shown → (o ≡ Done) ⊎ (o ≡ WriteFault) → PutsText shown o out → Gives files (check c) o 0 out
 gives_shown files c whole shown o out e s k p = record {
-  cause = shown_cause (IsDueFor files (check c)) o shown (whole, e, s) k;
+  something = some_due files (check c) tt;
   allows = λ d x. shown_allowed files c whole shown o d e s k x;
   puts = λ d x. shown_puts files c whole shown o out d e s p x;
 }
@@ -136,7 +128,7 @@ refused_allowed files c whole byte cause (runs q n ring flush read) e f d = absu
 
 gives_refused : (files : Contents) (c : AskedCheck) (whole : List ℕ) (byte : ℕ) (cause : Cause) → content_in files c.query ≡ Some whole → HasFault whole byte cause → Gives files (check c) (QueryFault byte cause) 0 []
 gives_refused files c whole byte cause e f = record {
-  cause = (whole, e, f);
+  something = some_due files (check c) tt;
   allows = λ d x. refused_allowed files c whole byte cause d e f x;
   puts = λ d x. early_puts files (check c) (QueryFault byte cause) d tt x;
 }

@@ -1,5 +1,5 @@
 -- What is due for some words and the contents of files, with no fault and memory enough.
-use Rattle.std.specs.Prelude.{Bool, ◌≡◌, ◌≢◌, ℕ, List, [], ◌∷◌, ◌++◌, length, Option, Some, None, option_map, option_and_then, option_to_list}
+use Rattle.std.specs.Prelude.{Bool, ◌≡◌, ◌≢◌, ◌⊎◌, ℕ, List, [], ◌∷◌, ◌++◌, length, Option, Some, None, option_map, option_and_then, option_to_list}
 use Rattle.saber_plan.specs.Rows.{Read}
 use Rattle.saber_plan.specs.Trees.{Tree}
 use Rattle.saber_plan.specs.Sizes.{limits_of}
@@ -13,7 +13,6 @@ use Rattle.saber_query.specs.Spelling.{spelled_text}
 use Rattle.saber_check.specs.Outcome.{IsFaultless}
 use Rattle.saber_check.specs.Texts.{HasPlan, HasFault}
 use Rattle.saber_words.specs.Chain.{AskedChain}
-use Rattle.saber_words.specs.Demo.{AskedDemo}
 use Rattle.saber_words.specs.Commands.{Asked, run, check, demo, chain, AskedRun, command_of}
 use Rattle.saber_plan.specs.Files.{input_of}
 use Rattle.saber_cli.specs.Demo.{summary_of_run, tasks_of_run}
@@ -72,12 +71,6 @@ HasRun files asked q = IsPlanned files asked.query q
 abbrev pub IsLike : AskedRun → Tree → Type 0
 IsLike asked q = length q.streams ≡ length (row_names asked)
 
--- a file of a command isn't there: the query's, or one of the row files of a run
-pub data IsMissing (files : Contents) (query : List ℕ) (command : Asked) : Type 0 where
-  no_query : content_in files query ≡ None → IsMissing files query command
-  no_rows : (asked : AskedRun) (q : Tree) → command ≡ run asked → HasRun files asked q → IsLike asked q →
-      contents_of files (row_names asked) ≡ None → IsMissing files query command
-
 -- the file with this name has a query with this fault
 abbrev pub IsFaulty : Contents → List ℕ → ℕ → Cause → Type 0
 IsFaulty files query byte cause = (text : List ℕ) × (content_in files query ≡ Some text) × HasFault text byte cause
@@ -90,12 +83,6 @@ pub record Shows (text out : List ℕ) : Type 0 where
   pub faultless : IsFaultless (query_of query.select)
   pub out_is : out ≡ spelled_text (words (query_of query.select)) ++ 10 ∷ []
 
--- the words ask for tasks of so many rows, such a ring, and whether the end closes windows
-pub record AsksFor (asked : AskedRun) (n ring : ℕ) (flush : Bool) : Type 0 where
-  pub task : n ≡ asked.sizes.task
-  pub cells : ring ≡ asked.sizes.ring
-  pub closes : flush ≡ asked.sizes.flush
-
 -- the run's query names so many streams, and the command another number of row files
 abbrev pub IsUnlike : Contents → AskedRun → ℕ → ℕ → Type 0
 IsUnlike files r streams given = (q : Tree) × HasRun files r q × (length q.streams ≡ streams) × (length (row_names r) ≡ given) × (streams ≢ given)
@@ -103,12 +90,12 @@ IsUnlike files r streams given = (q : Tree) × HasRun files r q × (length q.str
 -- What is due for a command that is no chain; of a chain see Chained.
 abbrev pub IsDueFor : Contents → Asked → Due → Type 0
 IsDueFor files c usage = ⊥
-IsDueFor files (run r) missing = IsMissing files r.query (run r)
+IsDueFor files (run r) missing = (content_in files r.query ≡ None) ⊎ ((q : Tree) × HasRun files r q × IsLike r q × (contents_of files (row_names r) ≡ None))
 IsDueFor files (run r) (faulty byte cause) = IsFaulty files r.query byte cause
 IsDueFor files (run r) (unlike streams given) = IsUnlike files r streams given
 IsDueFor files (run r) (runs q n ring flush read) = (all : List (List ℕ)) × HasRun files r q × IsLike r q ×
-    (contents_of files (row_names r) ≡ Some all) × AsksFor r n ring flush × (read ≡ input_of q (limits_of r.sizes) all)
-IsDueFor files (check c) missing = IsMissing files c.query (check c)
+    (contents_of files (row_names r) ≡ Some all) × (n ≡ r.sizes.task) × (ring ≡ r.sizes.ring) × (flush ≡ r.sizes.flush) × (read ≡ input_of q (limits_of r.sizes) all)
+IsDueFor files (check c) missing = content_in files c.query ≡ None
 IsDueFor files (check c) (faulty byte cause) = IsFaulty files c.query byte cause
 IsDueFor files (check c) (shows out) = (text : List ℕ) × (content_in files c.query ≡ Some text) × Shows text out
 IsDueFor files (demo d) (tells out count) = (out ≡ summary_of_run d.seed d.rows) × (count ≡ tasks_of_run d)
@@ -129,14 +116,6 @@ pub data IsDue (ws : List (List ℕ)) (files : Contents) (d : Due) : Type 0 wher
 abbrev pub IfCommand : List (List ℕ) → (Asked → Type 0) → Type 0
 IfCommand ws P = (c : Asked) → command_of ws ≡ Some c → P c
 
--- if they are a run
-abbrev pub IfRun : List (List ℕ) → (AskedRun → Type 0) → Type 0
-IfRun ws P = (r : AskedRun) → command_of ws ≡ Some (run r) → P r
-
--- if they are a run over generated rows
-abbrev pub IfDemo : List (List ℕ) → (AskedDemo → Type 0) → Type 0
-IfDemo ws P = (d : AskedDemo) → command_of ws ≡ Some (demo d) → P d
-
--- if they are a chain
-abbrev pub IfChain : List (List ℕ) → (AskedChain → Type 0) → Type 0
-IfChain ws P = (a : AskedChain) → command_of ws ≡ Some (chain a) → P a
+-- if it is of this kind
+abbrev pub IfAsked : {X : Type 0} → (X → Asked) → List (List ℕ) → (X → Type 0) → Type 0
+IfAsked {X} kind ws P = (x : X) → command_of ws ≡ Some (kind x) → P x

@@ -2,7 +2,7 @@
 use Rattle.std.specs.Prelude.{◌≡◌, ◌≢◌, ℕ, List, None, Some, Option}
 use Rattle.saber_io.specs.Outside.{FilesView}
 use Rattle.saber_plan.specs.Outputs.{Rose, appended_text}
-use Rattle.saber_words.specs.Commands.{chain, command_of}
+use Rattle.saber_words.specs.Commands.{run, demo, chain, command_of}
 use Rattle.saber_words.specs.Chain.{AskedChain}
 use Rattle.saber_notes.specs.Notes.{status_of, note_of}
 use Rattle.saber_notes.specs.Told.{TellsNotes}
@@ -10,7 +10,7 @@ use Rattle.saber_notes.specs.declared.outcome.Outcome.TheVariants.{Usage, WriteF
 use Rattle.saber_chain.specs.Sinks.{seen_of}
 use Rattle.saber_cli.specs.declared.top.Ended.{Ended}
 use Rattle.saber_cli.specs.Outcomes.{IsClean, IsFileFault, IsBeforeRun, IsOfSecond}
-use Rattle.saber_cli.specs.Due.{IfCommand, IfRun, IfDemo, IfChain}
+use Rattle.saber_cli.specs.Due.{IfCommand, IfAsked}
 use Rattle.saber_cli.specs.Gives.{AnswersTold}
 use Rattle.saber_cli.specs.Chained.{AnswersChain}
 use Rattle.saber_cli.specs.Leaving.{LeavesTold}
@@ -29,10 +29,10 @@ module _ {F K N : Type 0} (view : F → Option FilesView) (file_faults : F → �
     -- How often is written: of a run once for each of the tasks assembled that has text, and once more where that fails; of a text that goes out alone once. Of a chain see `chained`.
     pub writes : IfCommand words (λ c. WritesTold c (view old) e.outcome e.tasks (sink_writes given) (sink_writes e.sink))
     -- A run over generated rows tells its summary, whatever files there are: of the seed and the number of rows alone.
-    pub told : IfDemo words (λ d. TellsRun d e.outcome e.tasks (written given) (written e.sink))
+    pub told : IfAsked demo words (λ d. TellsRun d e.outcome e.tasks (written given) (written e.sink))
     -- A chain answers the second query over the lines of the first, and its outcome has its cause: in the texts, in how they fit, or in both runs. Behind a fault
     -- of reading those lines are of at least every whole task of what was taken of the row files.
-    pub chained : IfChain words (λ a. AnswersChain a e.outcome e.tasks (view old) (view new) (seen_of written sink_writes given) (seen_of written sink_writes e.sink))
+    pub chained : IfAsked chain words (λ a. AnswersChain a e.outcome e.tasks (view old) (view new) (seen_of written sink_writes given) (seen_of written sink_writes e.sink))
     pub second : IsOfSecond e.outcome → (a : AskedChain) × (command_of words ≡ Some (chain a))
     -- Words that are no command, whether the files tell or not.
     pub unread : command_of words ≡ None → EndsUnread e.outcome e.tasks old new given e.sink
@@ -47,6 +47,6 @@ module _ {F K N : Type 0} (view : F → Option FilesView) (file_faults : F → �
     -- a first one that has no fault, and the row files only behind two that chain. Of a query's file no more is taken than tells that its text is too long.
     pub leaves : IfCommand words (λ c. LeavesTold c e.outcome (view old) (view new))
     -- A fault of reading leaves at least every whole task assembled of what was taken of the row files.
-    pub taken : IfRun words (λ r. TakesTold r e.outcome e.tasks (view old) (view new))
+    pub taken : IfAsked run words (λ r. TakesTold r e.outcome e.tasks (view old) (view new))
     -- The note is the outcome's.
     pub notes : TellsNotes noted_text note_faults note_writes notes_old notes_new e.status e.noted (note_of e.outcome)

@@ -1,12 +1,12 @@
 // The command that the words are, over its files.
 ghost use Rattle.std.specs.Prelude.{◌≡◌, ◌≢◌, ℕ, List, None, Some, map};
 ghost use Rattle.saber_plan.specs.Outputs.{Rose, appended_text};
-ghost use Rattle.saber_words.specs.Commands.{chain, command_of};
+ghost use Rattle.saber_words.specs.Commands.{run, demo, chain, command_of};
 ghost use Rattle.saber_words.specs.Chain.{AskedChain};
 ghost use Rattle.saber_notes.specs.declared.outcome.Outcome.{Outcome};
 ghost use Rattle.saber_chain.specs.Sinks.{seen_of};
 ghost use Rattle.saber_cli.specs.Outcomes.{IsClean, IsFileFault, IsBeforeRun, IsOfSecond};
-ghost use Rattle.saber_cli.specs.Due.{IfCommand, IfRun, IfDemo, IfChain};
+ghost use Rattle.saber_cli.specs.Due.{IfCommand, IfAsked};
 ghost use Rattle.saber_cli.specs.Gives.{AnswersTold};
 ghost use Rattle.saber_cli.specs.Chained.{AnswersChain};
 ghost use Rattle.saber_cli.specs.Leaving.{LeavesTold};
@@ -49,16 +49,16 @@ where
     F::Src: Send + Drop,
     ensures written { (out : List ℕ) × (K.written result.sink ≡ appended_text (K.written sink) out)
         × AnswersTold (map (λ word. word.now) words.now) (F.told files.old) result.outcome result.tasks out }
-    ensures chained { IfChain (map (λ word. word.now) words.now)
+    ensures chained { IfAsked chain (map (λ word. word.now) words.now)
         (λ a. AnswersChain a result.outcome result.tasks (F.told files.old) (F.told files.new) (seen_of K.written K.writes sink) (seen_of K.written K.writes result.sink)) }
     ensures second { IsOfSecond result.outcome → (a : AskedChain) × (command_of (map (λ word. word.now) words.now) ≡ Some (chain a)) }
-    ensures told { IfDemo (map (λ word. word.now) words.now) (λ d. TellsRun d result.outcome result.tasks (K.written sink) (K.written result.sink)) }
+    ensures told { IfAsked demo (map (λ word. word.now) words.now) (λ d. TellsRun d result.outcome result.tasks (K.written sink) (K.written result.sink)) }
     ensures unread { command_of (map (λ word. word.now) words.now) ≡ None → EndsUnread result.outcome result.tasks files.old files.new sink result.sink }
     ensures usage { result.outcome ≡ Outcome.Usage → command_of (map (λ word. word.now) words.now) ≡ None }
     ensures writes { IfCommand (map (λ word. word.now) words.now) (λ c. WritesTold c (F.told files.old) result.outcome result.tasks (K.writes sink) (K.writes result.sink)) }
     ensures early { IsBeforeRun result.outcome → (result.tasks ≡ 0) × (result.sink ≡ sink) }
     ensures leaves { IfCommand (map (λ word. word.now) words.now) (λ c. LeavesTold c result.outcome (F.told files.old) (F.told files.new)) }
-    ensures taken { IfRun (map (λ word. word.now) words.now) (λ r. TakesTold r result.outcome result.tasks (F.told files.old) (F.told files.new)) }
+    ensures taken { IfAsked run (map (λ word. word.now) words.now) (λ r. TakesTold r result.outcome result.tasks (F.told files.old) (F.told files.new)) }
     ensures cause { IsFileFault result.outcome → Rose (F.faults files.old) (F.faults files.new) }
     ensures read_good { IsClean result.outcome → F.faults files.new ≡ F.faults files.old }
     ensures write { result.outcome ≡ Outcome.WriteFault → Rose (K.faults sink) (K.faults result.sink) }

@@ -17,6 +17,7 @@ use Rattle.saber_query.specs.declared.tree.Measure.TheVariants.{Range}
 use Rattle.saber_query.specs.Tokens.{keyword_among}
 use Rattle.saber_query.specs.Lexing.{lexed_text, begin, number_more, step, last_token, lex_from}
 use Rattle.saber_query.specs.Trees.{query_of}
+use Rattle.saber_query.specs.Longest.{Matches}
 use Rattle.saber_query.specs.Means.{MeansTree, byte_of}
 use Rattle.saber_query.specs.Parsed.{Parsed, IsParsed}
 use Rattle.saber_check.specs.declared.fault.Fault.{Fault}
@@ -24,6 +25,7 @@ use Rattle.saber_check.specs.Least.{each}
 use Rattle.saber_check.specs.Faults.{column_name_faults}
 use Rattle.saber_check.specs.Walked.{faults, column_faults, factor_faults, prod_faults, expr_faults, item_faults, decl_faults, window_faults, source_faults, second_faults, key_faults, group_faults, running_product, product_faults, sum_faults, running_sum}
 use Rattle.saber_check.specs.Texts.{HasPlan}
+use Rattle.saber_query.proofs.LongestLemmas.{reads_longest}
 use Rattle.saber_check.proofs.FrontLaws.{a_plan_is_checked}
 use Rattle.saber_check.proofs.WalkedLaws.{same_faults}
 use Rattle.saber_demo.specs.Query.{demo_query, demo_tree}
@@ -58,9 +60,16 @@ tokens = those (lexed_text demo_query)
 abbrev demo_parsed : Parsed
 demo_parsed = record { select = demo_select; starts = map byte_of tokens }
 
+lexed : lexed_text demo_query ≡ Ok tokens
+unfolding begin number_more step last_token lex_from keyword_among
+lexed = refl
+
+matched : Matches 0 demo_query (Ok tokens)
+matched = (reads_longest demo_query (Ok tokens)).0 lexed
+
 means : MeansTree demo_query demo_parsed
 unfolding begin number_more step last_token lex_from keyword_among
-means = record { short = omega arith; placed = tokens; lexed = refl; words = refl; starts = refl; shallow = omega arith }
+means = record { short = omega arith; placed = tokens; lexed = matched; words = refl; starts = refl; shallow = omega arith }
 
 parsed : IsParsed demo_select (map byte_of tokens)
 unfolding begin number_more step last_token lex_from keyword_among

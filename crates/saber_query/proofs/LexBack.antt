@@ -16,9 +16,11 @@ use Rattle.saber_query.specs.declared.lexer.Pending.TheVariants as p
 use Rattle.saber_query.specs.declared.fault.QueryFault.{QueryFault}
 use Rattle.saber_query.specs.Tokens.{text_of, sign_text, keyword_among, word_or, word_of}
 use Rattle.saber_query.specs.Reading.{token_of}
-use Rattle.saber_query.specs.Real.{all_name_bytes, is_name_text, IsReal, AllReal}
+use Rattle.saber_query.specs.Real.{is_name_text, IsReal, AllReal}
 use Rattle.saber_query.specs.Lexing.{is_letter, is_name_byte, placed_token, Step, goes, begin, number_more, step, last_token, onto, follow, lex_from}
 use Rattle.saber_query.specs.Spelling.{spell, spaced_text, spelled_text, HasTokens}
+use Rattle.saber_query.proofs.RealLemmas.{all_name_bytes}
+use Rattle.saber_query.proofs.LongestLemmas.{reads_longest}
 
 abbrev Answer : Type 0
 Answer = Result (List Placed) QueryFault
@@ -243,7 +245,7 @@ spaced_lexes (t ∷ ts) (h, h') m =
     (ps, space_step m (spell t ++ spaced_text ts) ∙ e, e')
 
 pub spelled_lexes : (ts : List Token) → AllReal ts → HasTokens (spelled_text ts) ts
-spelled_lexes [] h = record { placed = []; lexed = at_end 0; same = refl }
+spelled_lexes [] h = record { placed = []; lexed = (reads_longest [] (Ok [])).0 (at_end 0); same = refl }
 spelled_lexes (t ∷ ts) (h, h') =
     let (ps, e, e') = first_then t ts h (spaced_lexes ts h') 0 in
-    record { placed = ps; lexed = e; same = e' }
+    record { placed = ps; lexed = (reads_longest (spelled_text (t ∷ ts)) (Ok ps)).0 e; same = e' }

@@ -25,7 +25,7 @@ use Rattle.saber_query.specs.Lexing.{is_letter, is_name_byte, is_space, single, 
 use Rattle.saber_query.proofs.RealLemmas.{by_test, lexed_fine}
 use Rattle.saber_query.proofs.Back.{to_query}
 use Rattle.saber_query.proofs.Exact.{Walk, walk, syntax_found, deep_found}
-use Rattle.saber_query.proofs.TextLemmas.{lex_fails, stops_at, parsed_by}
+use Rattle.saber_query.proofs.TextLemmas.{lex_fails, stops_at, parsed_by, means_by}
 use Rattle.saber_query.proofs.Made.{select_for}
 
 -- ---- tokens fail by two causes
@@ -103,7 +103,7 @@ by_fate text ps short lex fits m =
     inl (
       record { select = s; starts = map byte_of ps },
       parsed_by text ps (map token_of ps) (map byte_of ps) s short lex refl refl spoken low,
-      record { short = short; placed = ps; lexed = lex; words = spoken; starts = refl; shallow = low },
+      means_by text ps (map token_of ps) (map byte_of ps) s (record { select = s; starts = map byte_of ps }) short lex refl refl spoken low refl,
     )
 by_fate text ps short lex (stops rest) w =
     let byte = byte_at (map byte_of ps) (length rest) (length text) in

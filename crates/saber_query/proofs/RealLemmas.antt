@@ -3,6 +3,7 @@ use Rattle.std.proofs.Common.{◌≡◌, ℕ, suc, ◌+◌, ◌-◌, ◌*◌, �
 use Rattle.std.proofs.lemmas.Bool.Decides.{nat_tests}
 use Rattle.std.specs.Prelude.{nat_le, ◌==◌}
 use Rattle.std.specs.Char.{is_ascii_digit}
+use Rattle.std.specs.List.{list_all}
 use Rattle.saber_query.specs.declared.token.Keyword.{Keyword}
 use Rattle.saber_query.specs.declared.token.Sign.{Sign}
 use Rattle.saber_query.specs.declared.token.Token.TheVariants.{Mark, Number}
@@ -12,8 +13,11 @@ use Rattle.saber_query.specs.declared.lexer.Pending.TheVariants as p
 use Rattle.saber_query.specs.declared.fault.QueryFault.{QueryFault}
 use Rattle.saber_query.specs.Tokens.{keyword_of, word_or, word_of}
 use Rattle.saber_query.specs.Reading.{token_of}
-use Rattle.saber_query.specs.Real.{all_name_bytes, is_name_text, IsReal, AllReal}
+use Rattle.saber_query.specs.Real.{is_name_text, IsReal, AllReal}
 use Rattle.saber_query.specs.Lexing.{is_letter, is_name_byte, is_space, single, double, angle, placed_token, Step, goes, fails, after, if_single, begin, number_more, if_double, step, last_token, onto, follow, lex_from, lexed_text}
+
+abbrev pub all_name_bytes : List ℕ → Bool
+all_name_bytes bs = list_all is_name_byte bs
 
 pub by_test : (c : Bool) (P : Step → Type 0) (x y : Step) → (c ≡ true → P x) → (c ≡ false → P y) → P (cond c x y)
 by_test true P x y f g = f refl
@@ -82,7 +86,7 @@ name_more (c ∷ bs) b e h = let (h', h'') = both _ _ h in ap (λ d. d && all_na
   both true y k = (refl, k)
   both false y k = cc
 
-word_real : (bs : List ℕ) → is_name_text bs ≡ true → IsReal (word_of bs)
+pub word_real : (bs : List ℕ) → is_name_text bs ≡ true → IsReal (word_of bs)
 word_real bs h = real (keyword_of bs) refl where
   real : (o : Option Keyword) → keyword_of bs ≡ o → IsReal (word_or bs o)
   real None e = (h, e)

@@ -9,19 +9,20 @@ use Rattle.saber_query.specs.declared.fault.QueryFault.{QueryFault}
 use Rattle.saber_query.specs.declared.fault.QueryFault.TheVariants.{NoMemory, At}
 use Rattle.saber_query.specs.Small.{IsLexFault, byte_at}
 use Rattle.saber_query.specs.Lexing.{lexed_text, LexGives}
-use Rattle.saber_query.specs.Means.{ParseGives, StopsAt, byte_of, first_byte}
+use Rattle.saber_query.specs.Means.{MeansTree, ParseGives, StopsAt, byte_of, first_byte}
 use Rattle.saber_query.specs.Reading.{token_of, StopsWith}
 use Rattle.saber_query.specs.declared.tree.Select.{Select}
 use Rattle.saber_query.specs.Trees.{query_of, depth}
 use Rattle.saber_query.specs.Words.{words}
 use Rattle.saber_query.specs.Real.{AllReal}
-use Rattle.saber_query.specs.Parsed.{IsParsed}
+use Rattle.saber_query.specs.Parsed.{Parsed, IsParsed}
 use Rattle.saber_query.proofs.RealLemmas.{lexed_fine}
+use Rattle.saber_query.proofs.LongestLemmas.{reads_longest}
 
 pub lex_fails : (e : QueryFault) (text : List ℕ) → length text ≤ 65536 → IsLexFault e → LexGives (Err e) (lexed_text text) → ParseGives (Err e) text
 lex_fails NoMemory text h f g = tt
-lex_fails (At b BadByte) text h f g = (h, g)
-lex_fails (At b NumberRange) text h f g = (h, g)
+lex_fails (At b BadByte) text h f g = (h, (reads_longest text (Err (At b BadByte))).0 g)
+lex_fails (At b NumberRange) text h f g = (h, (reads_longest text (Err (At b NumberRange))).0 g)
 lex_fails (At b TooLong) text h f g = absurd f
 lex_fails (At b Syntax) text h f g = absurd f
 lex_fails (At b Depth) text h f g = absurd f
@@ -92,7 +93,7 @@ stops_at Stops text ts rest ps starts left byte short lex e e' (before, split, h
       short = short;
       before = k.first;
       rest = k.second;
-      lexed = lex ∙ ap (λ z. Ok z) k.whole;
+      lexed = (reads_longest text (Ok (k.first ++ k.second))).0 (lex ∙ ap (λ z. Ok z) k.whole);
       there = let P : List Token → Type 0 = λ z. Stops z (map token_of k.second) in subst P (sym k.firsts) (let Q : List Token → Type 0 = Stops before in subst Q (sym k.seconds) h);
       place = b ∙ ap (λ z. byte_at z left (length text)) (e' ∙ ap (map byte_of) k.whole) ∙ ap (λ n. byte_at (map byte_of (k.first ++ k.second)) n (length text)) (l ∙ ap length (sym k.seconds) ∙ mapped k.second) ∙ byte_counted k.first k.second (length text);
     }
@@ -107,3 +108,8 @@ parsed_by text ps ts starts q h lex e e' w d =
       real = subst AllReal (sym (w ∙ e)) real;
       shallow = d;
     }
+
+pub means_by : (text : List ℕ) (ps : List Placed) (ts : List Token) (starts : List ℕ) (q : Select) (p : Parsed) → length text ≤ 65536 → lexed_text text ≡ Ok ps → ts ≡ map token_of ps → starts ≡ map byte_of ps →
+    words (query_of q) ≡ ts → depth (query_of q) ≤ 64 → p ≡ record { select = q; starts = starts } → MeansTree text p
+means_by text ps ts starts q p h lex e e' w d is =
+    subst (MeansTree text) (sym is) (record { short = h; placed = ps; lexed = (reads_longest text (Ok ps)).0 lex; words = w ∙ e; starts = e'; shallow = d })

@@ -1,4 +1,4 @@
--- The tokens of a text, by longest match.
+-- Bytes of tokens; and the tokens of a text as the code reads them, byte by byte. What they are, told without that, `Longest` says.
 use Rattle.std.specs.Prelude.{◌≡◌, ℕ, ◌+◌, ◌-◌, ◌*◌, ◌^◌, List, [], ◌∷◌, ◌++◌, Bool, true, false, ◌||◌, if◌then◌else◌, ◌==◌, nat_le, Option, Some, None, Result, Ok, Err, Vec}
 use Rattle.std.specs.declared.alloc.Global.{Global}
 use Rattle.std.specs.Char.{is_ascii_digit, is_ascii_alphabetic}
@@ -26,6 +26,16 @@ is_name_byte b = is_letter b || is_ascii_digit b
 abbrev pub is_space : ℕ → Bool
 is_space b = b == 32 || b == 9 || b == 10 || b == 13
 
+abbrev pub placed_token : ℕ → Token → Placed
+placed_token at t = record { byte = at; token = t }
+
+-- tokens in front of those of the rest, if that has no bad one
+abbrev pub onto : List Placed → Result (List Placed) QueryFault → Result (List Placed) QueryFault
+onto ts (Ok us) = Ok (ts ++ us)
+onto ts (Err f) = Err f
+
+-- ---- byte by byte
+
 -- a sign of one byte that begins no longer one
 abbrev pub single : ℕ → Option Sign
 single b =
@@ -50,9 +60,6 @@ double true b = if b == 61 then Some s.AtLeast else None
 abbrev pub angle : Bool → Sign
 angle false = s.Less
 angle true = s.Greater
-
-abbrev pub placed_token : ℕ → Token → Placed
-placed_token at t = record { byte = at; token = t }
 
 -- what a byte leads to: the tokens that end by it, and what is pending behind it
 pub data Step : Type 0 where
@@ -98,11 +105,6 @@ last_token p.Nothing = []
 last_token (p.Name start bs) = placed_token start (word_of bs) ∷ []
 last_token (p.Number start n) = placed_token start (Number n) ∷ []
 last_token (p.Angle start greater) = placed_token start (Mark (angle greater)) ∷ []
-
--- the tokens that end before, in front of those of the rest
-abbrev pub onto : List Placed → Result (List Placed) QueryFault → Result (List Placed) QueryFault
-onto ts (Ok us) = Ok (ts ++ us)
-onto ts (Err f) = Err f
 
 abbrev pub follow : Step → (Pending → Result (List Placed) QueryFault) → Result (List Placed) QueryFault
 follow (goes ts q) rest = onto ts (rest q)

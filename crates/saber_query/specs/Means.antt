@@ -9,7 +9,7 @@ use Rattle.saber_query.specs.declared.fault.QueryFault.{QueryFault}
 use Rattle.saber_query.specs.declared.fault.QueryFault.TheVariants.{NoMemory, At}
 use Rattle.saber_query.specs.Trees.{depth, query_of}
 use Rattle.saber_query.specs.Words.{words, IsSyntax, IsDeep}
-use Rattle.saber_query.specs.Lexing.{lexed_text}
+use Rattle.saber_query.specs.Longest.{Matches}
 use Rattle.saber_query.specs.Reading.{token_of}
 
 -- where a token begins
@@ -25,7 +25,7 @@ first_byte (p ∷ ps) end = p.byte
 pub record MeansTree (text : List ℕ) (q : Parsed) : Type 0 where
   pub short : length text ≤ 65536
   pub placed : List Placed
-  pub lexed : lexed_text text ≡ Ok placed
+  pub lexed : Matches 0 text (Ok placed)
   pub words : words (query_of q.select) ≡ map token_of placed
   pub starts : q.starts ≡ map byte_of placed
   pub shallow : depth (query_of q.select) ≤ 64
@@ -35,15 +35,15 @@ pub record StopsAt (stops : List Token → List Token → Type 0) (text : List �
   pub short : length text ≤ 65536
   pub before : List Placed
   pub rest : List Placed
-  pub lexed : lexed_text text ≡ Ok (before ++ rest)
+  pub lexed : Matches 0 text (Ok (before ++ rest))
   pub there : stops (map token_of before) (map token_of rest)
   pub place : byte ≡ first_byte rest (length text)
 
 -- The causes that a text can have, in the order in which they are looked for: its length, its tokens, its syntax. A text has no other.
 abbrev pub TextFault : Cause → ℕ → List ℕ → Type 0
 TextFault TooLong b text = (65536 < length text) × (b ≡ 65536)
-TextFault BadByte b text = (length text ≤ 65536) × (lexed_text text ≡ Err (At b BadByte))
-TextFault NumberRange b text = (length text ≤ 65536) × (lexed_text text ≡ Err (At b NumberRange))
+TextFault BadByte b text = (length text ≤ 65536) × Matches 0 text (Err (At b BadByte))
+TextFault NumberRange b text = (length text ≤ 65536) × Matches 0 text (Err (At b NumberRange))
 TextFault Syntax b text = StopsAt (IsSyntax 64) text b
 TextFault Depth b text = StopsAt (IsDeep 64) text b
 TextFault _ b text = ⊥

@@ -4,7 +4,7 @@ use Rattle.saber_query.specs.declared.token.Token.{Token}
 use Rattle.saber_query.specs.declared.token.Token.TheVariants.{Word, Mark, Named, Number}
 use Rattle.saber_query.specs.declared.token.Placed.{Placed}
 use Rattle.saber_query.specs.Tokens.{text_of, sign_text}
-use Rattle.saber_query.specs.Lexing.{lexed_text}
+use Rattle.saber_query.specs.Longest.{Matches}
 use Rattle.saber_query.specs.Reading.{token_of}
 
 -- a token's text: keywords in capitals, numbers in decimal without leading zeros
@@ -27,5 +27,5 @@ spelled_text (t ∷ ts) = spell t ++ spaced_text ts
 -- the text has these tokens, wherever they begin
 pub record HasTokens (text : List ℕ) (ts : List Token) : Type 0 where
   pub placed : List Placed
-  pub lexed : lexed_text text ≡ Ok placed
+  pub lexed : Matches 0 text (Ok placed)
   pub same : map token_of placed ≡ ts

@@ -1,5 +1,6 @@
 -- The words of trees.
-use Rattle.std.specs.Prelude.{◌≡◌, ◌⊎◌, ℕ, suc, ◌≤◌, List, [], ◌∷◌, ◌++◌, Option, Some, None, Bool, true, false, map, option_map, Vec}
+use Rattle.std.specs.Prelude.{◌≡◌, ◌⊎◌, ℕ, suc, ◌≤◌, List, [], ◌∷◌, ◌++◌, Option, Bool, true, false, map, option_map, Vec}
+use Rattle.std.specs.Option.{option_map_or}
 use Rattle.std.specs.declared.alloc.Global.{Global}
 use Rattle.saber_query.specs.declared.tree.Unit.{Unit as Unit_tree}
 use Rattle.saber_query.specs.declared.tree.Conj.{Conj}
@@ -44,8 +45,7 @@ abbrev pub name_words : List ℕ → List Token
 name_words n = Named n ∷ []
 
 abbrev pub second_words : Option (List ℕ) → List Token
-second_words None = []
-second_words (Some n) = Mark s.Dot ∷ Named n ∷ []
+second_words o = option_map_or (λ n. Mark s.Dot ∷ Named n ∷ []) o []
 
 abbrev pub column_words : Column → List Token
 column_words c = Named c.first ∷ second_words c.second
@@ -98,15 +98,13 @@ measure_words Range = Word k.Range ∷ []
 measure_words (Partition g) = Word k.Partition ∷ (by_words g ++ Word k.Rows ∷ [])
 
 abbrev pub window_words : Option Window → List Token
-window_words None = []
-window_words (Some w) = Mark s.OpenBracket ∷ (measure_words w.measure ++ Number w.size ∷ Word k.Slide ∷ Number w.slide ∷ Mark s.CloseBracket ∷ [])
+window_words o = option_map_or (λ (w : Window). Mark s.OpenBracket ∷ (measure_words w.measure ++ Number w.size ∷ Word k.Slide ∷ Number w.slide ∷ Mark s.CloseBracket ∷ [])) o []
 
 abbrev pub source_words : Source → List Token
 source_words f = Named f.name ∷ window_words f.window
 
 abbrev pub second_source_words : Option Source → List Token
-second_source_words None = []
-second_source_words (Some f) = Mark s.Comma ∷ source_words f
+second_source_words o = option_map_or (λ f. Mark s.Comma ∷ source_words f) o []
 
 abbrev pub cmp_sign : Cmp → Sign
 cmp_sign c.Equal = s.Equal
@@ -143,12 +141,10 @@ abbrev pub conjs_words : Vec Conj Global → List Token
 conjs_words cs = ors_words (ors_of (map both_of cs.items))
 
 abbrev pub where_words : Option Tests → List Token
-where_words None = []
-where_words (Some t) = Word k.Where ∷ tests_words t
+where_words o = option_map_or (λ t. Word k.Where ∷ tests_words t) o []
 
 abbrev pub group_words : Option Keys → List Token
-group_words None = []
-group_words (Some g) = Word k.Group ∷ by_words g
+group_words o = option_map_or (λ g. Word k.Group ∷ by_words g) o []
 
 abbrev pub names_words : List (List ℕ) → List Token
 names_words ns = after_each (Mark s.Comma) name_words ns
@@ -175,12 +171,10 @@ stream_keyword Dstream = k.Dstream
 
 -- before SELECT, and behind all but the last semicolon
 abbrev pub opened_words : Option StreamWord → List Token
-opened_words None = []
-opened_words (Some w) = Word (stream_keyword w) ∷ Mark s.Open ∷ []
+opened_words o = option_map_or (λ w. Word (stream_keyword w) ∷ Mark s.Open ∷ []) o []
 
 abbrev pub shut_words : Option StreamWord → List Token
-shut_words None = []
-shut_words (Some w) = Mark s.Close ∷ []
+shut_words o = option_map_or (λ w. Mark s.Close ∷ []) o []
 
 -- from SELECT to before FROM
 abbrev pub outputs_words : Item → List Item → List Token

@@ -28,7 +28,7 @@ pub fn words_have_one_tree()
 
 /// The tokens of a text are ones that a text can have, and no more than it has bytes.
 pub fn tokens_are_real()
-    ensures { (text : List ℕ) (ps : List Placed) → lexed_text text ≡ Ok ps → (length ps ≤ length text) × AllReal (map token_of ps) }
+    ensures { (text : List ℕ) (ps : List Placed) → Matches 0 text (Ok ps) → (length ps ≤ length text) × AllReal (map token_of ps) }
 {}
 
 /// Each text means a query or has a fault: there is none of which nothing is said.
@@ -37,7 +37,8 @@ pub fn a_text_means_a_query_or_has_a_fault()
         ⊎ ((byte : ℕ) × (cause : Cause) × TextFault cause byte text) }
 {}
 
-/// The tokens of a text, or its first bad one, are those of longest match: these and no others.
+/// What the lexer reads byte by byte, the tokens of a text or its first bad one, are those of
+/// longest match: these and no others.
 pub fn tokens_are_of_longest_match()
     ensures { (text : List ℕ) (r : Result (List Placed) QueryFault) → (lexed_text text ≡ r) ↔ Matches 0 text r }
 {}

@@ -1,6 +1,6 @@
 -- What several queries over the left file come to, from what each part of the command did.
-use Rattle.std.proofs.Common.{◌≡◌, ◌≤◌, ◌≢◌, inl, inr, ℕ, zero, suc, ◌+◌, List, [], ◌∷◌, ◌++◌, length, map, take, Option, Some, None, IfSome, refl, sym, ◌∙◌, ap, subst, arith, append-nil, append_assoc}
-use Rattle.std.specs.Prelude.{option_and_then}
+use Rattle.std.proofs.Common.{◌≡◌, ◌≤◌, ◌≢◌, inl, inr, ℕ, zero, suc, ◌+◌, ◌-◌, List, [], ◌∷◌, ◌++◌, length, map, take, Option, Some, None, IfSome, refl, sym, ◌∙◌, ap, subst, arith, append-nil, append_assoc}
+use Rattle.std.specs.Prelude.{option_and_then, slice_get, min}
 use Rattle.std.specs.List.{AllByRecursion, AllZip}
 use Rattle.saber_io.specs.Outside.{FilesView, Closed}
 use Rattle.saber_plan.specs.Outputs.{Rose, raised_by}
@@ -25,7 +25,7 @@ use Rattle.saber_cli.proofs.WriteLemmas.{same_run, told_writes}
 use Rattle.saber_cli.specs.Due.{Contents, HasRun, contents_of, IsPlanned}
 use Rattle.saber_cli.specs.Endings.{ended_as}
 use Rattle.saber_cli.specs.Gives.{Gives}
-use Rattle.saber_cli.specs.Leaves.{AreOf, HadNoFaults, Leaves}
+use Rattle.saber_cli.specs.Leaves.{AreOf, HadFaults, HadNoFaults, Leaves}
 use Rattle.saber_cli.specs.RowFiles.{after_use}
 use Rattle.saber_cli.specs.Taken.{TakesOf}
 use Rattle.saber_top.specs.declared.ended.TopEnd.TheVariants.{Before, Each}
@@ -35,7 +35,7 @@ use Rattle.saber_top.specs.Commands.{alone, many_names, out_names}
 use Rattle.saber_top.specs.Comes.{ComesTo, IsTrueOf}
 use Rattle.saber_top.specs.Ends.{EndsUnreadMany, IsCreateEnd, unread_many}
 use Rattle.saber_top.specs.Made.{EarlyMade, IsOfLeft, MadeFirst, naming_all}
-use Rattle.saber_top.specs.ManyLeaves.{AllRead, AsksMany, EarlyFits, LeavesManyTold, LeftAlone, LeftRan, PlannedBefore, RanFits, SharedFits, UsesFirst, UsesLeft}
+use Rattle.saber_top.specs.ManyLeaves.{AllRead, AsksMany, EarlyFits, LastHadFaults, LeavesManyTold, LeftAlone, LeftRan, PlannedBefore, RanFits, SharedFits, UsesFirst, UsesLeft}
 use Rattle.saber_top.specs.Queries.{ArePlanned, EndsEarly, HasStream, IsThere, LackShared, MayShare, first_columns}
 use Rattle.saber_top.specs.Shared.{RunsOver}
 use Rattle.saber_top.proofs.LeftLemmas.{read_by}
@@ -141,10 +141,30 @@ early_follows all NoMemory count queries more n good h = omega (arith, long_both
 
 -- ---- the files: where a query is at fault
 
+last_there : (xs : List Closed) (x : Closed) → slice_get (xs ++ x ∷ []) (length xs) ≡ Some x
+last_there [] x = refl
+last_there (y ∷ xs) x = last_there xs x
+
+front_good : (n : ℕ) (xs ys : List Closed) → n ≤ length xs → HadNoFaults xs → HadNoFaults (take n (xs ++ ys))
+front_good zero xs ys l h = tt
+front_good (suc n) [] ys l h = absurd (omega (arith, l))
+front_good (suc n) (x ∷ xs) ys l h = (h.0, front_good n xs ys (omega (arith, l)) h.1)
+
+-- the source that was given back last is the one at the place of the query
+last_at : (all number : ℕ) (back : List Closed) → length back ≡ number → LastHadFaults back → HadFaults all back (number - 1)
+last_at all number back e h =
+    let place : length h.before ≡ number - 1 = omega (arith, e, ap length h.are, long_both h.before (h.last ∷ [])) in
+    record {
+      source = h.last;
+      there = ap (slice_get back) (sym place) ∙ ap (λ l. slice_get l (length h.before)) h.are ∙ last_there h.before h.last;
+      faults = h.faults;
+      before = subst HadNoFaults (ap (take (min (number - 1) all)) (sym h.are)) (front_good (min (number - 1) all) h.before (h.last ∷ []) (omega (arith, place)) h.good);
+    }
+
 shared_fits : (names : List (List ℕ)) (count : ℕ) (e : Early) (back : List Closed) → SharedFits names e count back → EarlyFits (length names) e count back
 shared_fits names count Usage back h = absurd h
 shared_fits names count (QueryUnopened number) back h = (omega (arith, h.0), h.1, h.2)
-shared_fits names count (QueryUnread number) back h = (omega (arith, h.0), h.1, h.2)
+shared_fits names count (QueryUnread number) back h = (omega (arith, h.0), h.1, last_at (length names) number back (omega (arith, h.0, h.1)) h.2)
 shared_fits names count (QueryFault number byte cause) back h = record { asked_for = omega (arith, h.0); all = h.1; good = h.2 }
 shared_fits names count (Unshareable number) back h = h
 shared_fits names count LeftUnopened back h = absurd h
@@ -362,7 +382,7 @@ left_reason m plans (QueryUnread number) t k p share there few = absurd k
 left_reason m plans (QueryFault number byte cause) t k p share there few = absurd k
 left_reason m plans (Unshareable number) t k p share there few = absurd k
 left_reason m plans LeftUnopened t k p share there few = record { plans = plans; planned = p; share = share }
-left_reason m plans (CreateFault number) t k p share there few = let n = few number refl in (record { shared = record { plans = plans; planned = p; share = share }; there = there tt }, n.0, n.1)
+left_reason m plans (CreateFault number) t k p share there few = let n = few number refl in (record { plans = plans; planned = p; share = share }, there tt, n.0, n.1)
 left_reason m plans NoMemory t k p share there few = tt
 
 pub left_early : (m : AskedMany) (plans : List Tree) (e : Early) (old mid : Option FilesView) → IsOfLeft e → IfSome old (λ t. ArePlanned t.contents m.queries plans) → MayShare plans → AllRead m.queries old mid → (IsCreateEnd e → IfSome mid (λ u. IsThere u.contents m.left))

@@ -14,7 +14,7 @@ use Rattle.saber_notes.specs.declared.outcome.Outcome.TheVariants.{Done}
 use Rattle.saber_notes.specs.declared.early.Early.{Early}
 use Rattle.saber_notes.specs.declared.early.Early.TheVariants.{Usage, QueryUnopened, QueryUnread, QueryFault, Unshareable, LeftUnopened, CreateFault, NoMemory}
 use Rattle.saber_cli.specs.Outcomes.{IsOfPlan}
-use Rattle.saber_cli.specs.Due.{Contents, IsPlanned}
+use Rattle.saber_cli.specs.Due.{Contents, IsFaulty, IsPlanned}
 use Rattle.saber_cli.specs.Uses.{Uses, unasked, unopened, used, IsOfQueryFile}
 use Rattle.saber_cli.specs.Leaves.{AreOf}
 use Rattle.saber_cli.specs.RowFiles.{after_use}
@@ -105,21 +105,20 @@ more_read name names old mid new one all = record {
 
 -- ---- the first at fault is this one
 
-here : (others : ℕ) (name : List ℕ) (names : List (List ℕ)) (files : Contents) → IsReached files others (name ∷ names) (others + 1)
-here others name names files = record { before = []; query = name; behind = names; names_are = refl; number_is = omega arith; plans = []; planned = tt }
+here : (P : List ℕ → Type 0) (others : ℕ) (name : List ℕ) (names : List (List ℕ)) (files : Contents) → P name → IsReached files P others (name ∷ names) (others + 1)
+here P others name names files h = record { before = []; one = name; behind = names; all_are = refl; number_is = omega arith; before_fine = tt; at_fault = h }
 
 pub first_lacks : (files : Contents) (others : ℕ) (name : List ℕ) (names : List (List ℕ)) (o : Outcome) → LacksPlan files name o → LackPlans files others (name ∷ names) (as_early (others + 1) o)
-unfolding here
 first_lacks files others name names Done h = absurd h
 first_lacks files others name names outcomes.Usage h = absurd h
 first_lacks files others name names (outcomes.FileCount streams given) h = absurd h
-first_lacks files others name names (outcomes.QueryFault byte cause) h = record { reached = here others name names files; faulty = h }
+first_lacks files others name names (outcomes.QueryFault byte cause) h = here (λ n. IsFaulty files n byte cause) others name names files h
 first_lacks files others name names (outcomes.SecondQueryFault byte cause) h = absurd h
 first_lacks files others name names (outcomes.Unchainable file) h = absurd h
 first_lacks files others name names (outcomes.LineRefused side line cause) h = absurd h
 first_lacks files others name names (outcomes.ChainLineRefused line cause) h = absurd h
-first_lacks files others name names (outcomes.OpenFault file) h = here others name names files
-first_lacks files others name names (outcomes.ReadFault file) h = here others name names files
+first_lacks files others name names (outcomes.OpenFault file) h = here (λ n. Unit {0}) others name names files tt
+first_lacks files others name names (outcomes.ReadFault file) h = here (λ n. Unit {0}) others name names files tt
 first_lacks files others name names (outcomes.TooWide task need ring) h = absurd h
 first_lacks files others name names outcomes.WriteFault h = absurd h
 first_lacks files others name names outcomes.NoMemory h = tt
@@ -192,23 +191,22 @@ first_used others name names outcomes.NoMemory old new h (used left faults f c i
 
 -- ---- or a later one
 
-later : (files : Contents) (others number : ℕ) (name : List ℕ) (names : List (List ℕ)) (plan : Tree) → IsPlanned files name plan → IsReached files (others + 1) names number → IsReached files others (name ∷ names) number
-later files others number name names plan p r = record {
+later : (files : Contents) (P : List ℕ → Type 0) (others number : ℕ) (name : List ℕ) (names : List (List ℕ)) (plan : Tree) → IsPlanned files name plan → IsReached files P (others + 1) names number → IsReached files P others (name ∷ names) number
+later files P others number name names plan p r = record {
   before = name ∷ r.before;
-  query = r.query;
+  one = r.one;
   behind = r.behind;
-  names_are = ap (λ x. name ∷ x) r.names_are;
+  all_are = ap (λ x. name ∷ x) r.all_are;
   number_is = r.number_is ∙ omega arith;
-  plans = plan ∷ r.plans;
-  planned = (p, r.planned);
+  before_fine = ((plan, p), r.before_fine);
+  at_fault = r.at_fault;
 }
 
 pub later_lacks : (files : Contents) (others : ℕ) (name : List ℕ) (names : List (List ℕ)) (plan : Tree) (e : Early) → IsPlanned files name plan → LackPlans files (others + 1) names e → LackPlans files others (name ∷ names) e
-unfolding later
 later_lacks files others name names plan Usage p h = absurd h
-later_lacks files others name names plan (QueryUnopened number) p h = later files others number name names plan p h
-later_lacks files others name names plan (QueryUnread number) p h = later files others number name names plan p h
-later_lacks files others name names plan (QueryFault number byte cause) p h = record { reached = later files others number name names plan p h.reached; faulty = h.faulty }
+later_lacks files others name names plan (QueryUnopened number) p h = later files (λ n. Unit {0}) others number name names plan p h
+later_lacks files others name names plan (QueryUnread number) p h = later files (λ n. Unit {0}) others number name names plan p h
+later_lacks files others name names plan (QueryFault number byte cause) p h = later files (λ n. IsFaulty files n byte cause) others number name names plan p h
 later_lacks files others name names plan (Unshareable number) p h = absurd h
 later_lacks files others name names plan LeftUnopened p h = absurd h
 later_lacks files others name names plan (CreateFault number) p h = absurd h
@@ -269,17 +267,17 @@ columns_first streams [] stream e = ap (λ s. columns_on s sides.Left) (sym e)
 columns_first streams (other ∷ rest) stream e = ap (λ s. columns_on s sides.Left) (sym e)
 
 pub unlike_here : (columns others : ℕ) (plan : Tree) (plans : List Tree) → (HasStream columns plan → ⊥) → IsFirstUnlike columns others (plan ∷ plans) (others + 1)
-unlike_here columns others plan plans n = record { before = []; plan = plan; behind = plans; plans_are = refl; number_is = omega arith; share = tt; unlike = n }
+unlike_here columns others plan plans n = record { before = []; one = plan; behind = plans; all_are = refl; number_is = omega arith; before_fine = tt; at_fault = n }
 
 pub unlike_later : (columns others number : ℕ) (plan : Tree) (plans : List Tree) → HasStream columns plan → IsFirstUnlike columns (others + 1) plans number → IsFirstUnlike columns others (plan ∷ plans) number
 unlike_later columns others number plan plans h u = record {
   before = plan ∷ u.before;
-  plan = u.plan;
+  one = u.one;
   behind = u.behind;
-  plans_are = ap (λ x. plan ∷ x) u.plans_are;
+  all_are = ap (λ x. plan ∷ x) u.all_are;
   number_is = u.number_is ∙ omega arith;
-  share = (h, u.share);
-  unlike = u.unlike;
+  before_fine = (h, u.before_fine);
+  at_fault = u.at_fault;
 }
 
 -- ---- of all queries

@@ -1,5 +1,5 @@
 -- What a call with several queries leaves of the files that it reads: which it asked for, and which it gave back.
-use Rattle.std.specs.Prelude.{◌≡◌, ◌<◌, ◌≤◌, ℕ, suc, ◌+◌, List, [], ◌∷◌, ◌++◌, length, take, Option, Some, IfSome}
+use Rattle.std.specs.Prelude.{◌≡◌, ◌<◌, ◌≤◌, ℕ, suc, ◌+◌, ◌-◌, List, [], ◌∷◌, ◌++◌, length, take, Option, Some, IfSome}
 use Rattle.std.specs.List.{AllByRecursion}
 use Rattle.saber_io.specs.Outside.{FilesView, Closed}
 use Rattle.saber_plan.specs.Trees.{Tree}
@@ -10,7 +10,7 @@ use Rattle.saber_notes.specs.declared.outcome.InputFile.TheVariants.{Left}
 use Rattle.saber_notes.specs.declared.outcome.Outcome.{Outcome}
 use Rattle.saber_notes.specs.declared.outcome.Outcome.TheVariants.{ReadFault}
 use Rattle.saber_cli.specs.Due.{Contents}
-use Rattle.saber_cli.specs.Leaves.{AreGivenBack, AreOf, HadNoFaults, Leaves}
+use Rattle.saber_cli.specs.Leaves.{AreGivenBack, AreOf, HadFaults, HadNoFaults, Leaves}
 use Rattle.saber_cli.specs.Outcomes.{IsClean}
 use Rattle.saber_cli.specs.RowFiles.{after_use}
 use Rattle.saber_top.specs.Commands.{many_names}
@@ -18,21 +18,13 @@ use Rattle.saber_top.specs.Queries.{ArePlanned, AreShared}
 
 -- ---- the ends
 
--- the source that was given back last had faults, and those before it had none
-pub record LastHadFaults (given_back : List Closed) : Type 0 where
-  pub before : List Closed
-  pub last : Closed
-  pub are : given_back ≡ before ++ last ∷ []
-  pub good : HadNoFaults before
-  pub faults : 0 < last.1
-
 -- How many files were asked for and given back where none of so many queries was run. Those of the queries up to the one at fault; all queries' where one
 -- can't share the input; the left file too where an answer's file can't be created. A file that was not opened is the last one asked for, and is not given
 -- back; one that was not read had faults when it was given back. Whatever else the end is, each that was asked for was given back.
 abbrev pub EarlyFits : ℕ → Early → ℕ → List Closed → Type 0
 EarlyFits all Usage asked given_back = AreGivenBack 0 asked given_back
 EarlyFits all (QueryUnopened number) asked given_back = (asked ≡ number) × (suc (length given_back) ≡ asked) × HadNoFaults given_back
-EarlyFits all (QueryUnread number) asked given_back = (asked ≡ number) × (length given_back ≡ asked) × LastHadFaults given_back
+EarlyFits all (QueryUnread number) asked given_back = (asked ≡ number) × (length given_back ≡ asked) × HadFaults all given_back (number - 1)
 EarlyFits all (QueryFault number byte cause) asked given_back = AreGivenBack number asked given_back
 EarlyFits all (Unshareable number) asked given_back = AreGivenBack all asked given_back
 EarlyFits all LeftUnopened asked given_back = (asked ≡ suc all) × (suc (length given_back) ≡ asked) × HadNoFaults given_back
@@ -77,6 +69,14 @@ pub record AllRead (names : List (List ℕ)) (old new : Option FilesView) : Type
   pub as_many : length given_back ≡ length names
   pub good : HadNoFaults given_back
   pub are_of : IfSome old (λ t. AreOf (length names) t.contents given_back names)
+
+-- the source that was given back last had faults, and those before it had none
+pub record LastHadFaults (given_back : List Closed) : Type 0 where
+  pub before : List Closed
+  pub last : Closed
+  pub are : given_back ≡ before ++ last ∷ []
+  pub good : HadNoFaults before
+  pub faults : 0 < last.1
 
 -- how many queries' files, behind so many others, were asked for and given back where one of them has no plan
 abbrev pub LackFits : ℕ → Early → ℕ → List Closed → Type 0

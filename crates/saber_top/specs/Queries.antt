@@ -5,7 +5,6 @@ use Rattle.saber_io.specs.Outside.{content_in}
 use Rattle.saber_plan.specs.declared.rows.Side.TheVariants.{Left}
 use Rattle.saber_plan.specs.Checked.{columns_on}
 use Rattle.saber_plan.specs.Trees.{Tree}
-use Rattle.saber_query.specs.declared.fault.Cause.{Cause}
 use Rattle.saber_words.specs.Many.{AskedMany}
 use Rattle.saber_notes.specs.declared.outcome.Outcome.{Outcome}
 use Rattle.saber_notes.specs.declared.outcome.Outcome.TheVariants as outcomes
@@ -41,30 +40,23 @@ pub record AreShared (files : Contents) (names : List (List ℕ)) : Type 0 where
 
 -- ---- the first at fault
 
--- Of queries behind so many others, the one of this number (all are counted from 1): all before it have plans.
-pub record IsReached (files : Contents) (others : ℕ) (names : List (List ℕ)) (number : ℕ) : Type 0 where
-  pub before : List (List ℕ)
-  pub query : List ℕ
-  pub behind : List (List ℕ)
-  pub names_are : names ≡ before ++ query ∷ behind
+-- Of a list behind so many others, the one of this number (all are counted from 1) is at fault, and all before it are fine.
+pub record IsFirstAtFault {X : Type 0} (fine fault : X → Type 0) (others : ℕ) (all : List X) (number : ℕ) : Type 0 where
+  pub before : List X
+  pub one : X
+  pub behind : List X
+  pub all_are : all ≡ before ++ one ∷ behind
   pub number_is : number ≡ others + suc (length before)
-  pub plans : List Tree
-  pub planned : ArePlanned files before plans
+  pub before_fine : AllByRecursion fine before
+  pub at_fault : fault one
 
--- the text of that query has this fault
-pub record IsReachedFault (files : Contents) (others : ℕ) (names : List (List ℕ)) (number byte : ℕ) (cause : Cause) : Type 0 where
-  pub reached : IsReached files others names number
-  pub faulty : IsFaulty files reached.query byte cause
+-- of queries: all before it have plans
+abbrev pub IsReached : Contents → (List ℕ → Type 0) → ℕ → List (List ℕ) → ℕ → Type 0
+IsReached files fault others names number = IsFirstAtFault (λ name. (plan : Tree) × IsPlanned files name plan) fault others names number
 
--- of plans behind so many others, the one of this number is the first that has not one stream of so many columns
-pub record IsFirstUnlike (columns others : ℕ) (plans : List Tree) (number : ℕ) : Type 0 where
-  pub before : List Tree
-  pub plan : Tree
-  pub behind : List Tree
-  pub plans_are : plans ≡ before ++ plan ∷ behind
-  pub number_is : number ≡ others + suc (length before)
-  pub share : AllByRecursion (HasStream columns) before
-  pub unlike : HasStream columns plan → ⊥
+-- of plans: the first that has not one stream of so many columns
+abbrev pub IsFirstUnlike : ℕ → ℕ → List Tree → ℕ → Type 0
+IsFirstUnlike columns others plans number = IsFirstAtFault (HasStream columns) (λ plan. ¬ (HasStream columns plan)) others plans number
 
 -- ---- why none is run
 
@@ -72,22 +64,17 @@ pub record IsFirstUnlike (columns others : ℕ) (plans : List Tree) (number : �
 abbrev pub IsThere : Contents → List ℕ → Type 0
 IsThere files name = (bytes : List ℕ) × (content_in files name ≡ Some bytes)
 
--- the left file is there, behind queries that can share it
-pub record IsLeftThere (files : Contents) (m : AskedMany) : Type 0 where
-  pub shared : AreShared files m.queries
-  pub there : IsThere files m.left
-
 -- Why no query was run: the first of what is at fault, in this order. The queries' files and texts, each in its turn; the shapes of all, at the first query
 -- that can't share the input of the first one; the left file; the files that the answers go to. A file that can't be opened, read or created has its cause
 -- in a count of faults, and is asked for where all before it was good. Want of memory has no cause; of words that are no command see `unread`.
 abbrev pub EndsEarly : Contents → AskedMany → Early → Type 0
 EndsEarly files m Usage = ⊥
-EndsEarly files m (QueryUnopened number) = IsReached files 0 m.queries number
-EndsEarly files m (QueryUnread number) = IsReached files 0 m.queries number
-EndsEarly files m (QueryFault number byte cause) = IsReachedFault files 0 m.queries number byte cause
+EndsEarly files m (QueryUnopened number) = IsReached files (λ name. Unit {0}) 0 m.queries number
+EndsEarly files m (QueryUnread number) = IsReached files (λ name. Unit {0}) 0 m.queries number
+EndsEarly files m (QueryFault number byte cause) = IsReached files (λ name. IsFaulty files name byte cause) 0 m.queries number
 EndsEarly files m (Unshareable number) = (plans : List Tree) × ArePlanned files m.queries plans × IsFirstUnlike (first_columns plans) 0 plans number
 EndsEarly files m LeftUnopened = AreShared files m.queries
-EndsEarly files m (CreateFault number) = IsLeftThere files m × (1 ≤ number) × (number ≤ length m.queries)
+EndsEarly files m (CreateFault number) = AreShared files m.queries × IsThere files m.left × (1 ≤ number) × (number ≤ length m.queries)
 EndsEarly files m NoMemory = Unit {0}
 
 -- ---- the queries alone
@@ -101,9 +88,9 @@ as_early number _ = NoMemory
 
 -- why queries behind so many others have no plans
 abbrev pub LackPlans : Contents → ℕ → List (List ℕ) → Early → Type 0
-LackPlans files others names (QueryUnopened number) = IsReached files others names number
-LackPlans files others names (QueryUnread number) = IsReached files others names number
-LackPlans files others names (QueryFault number byte cause) = IsReachedFault files others names number byte cause
+LackPlans files others names (QueryUnopened number) = IsReached files (λ name. Unit {0}) others names number
+LackPlans files others names (QueryUnread number) = IsReached files (λ name. Unit {0}) others names number
+LackPlans files others names (QueryFault number byte cause) = IsReached files (λ name. IsFaulty files name byte cause) others names number
 LackPlans files others names NoMemory = Unit {0}
 LackPlans files others names _ = ⊥
 

@@ -7,7 +7,7 @@ use Rattle.saber_words.specs.Commands.{run, demo, chain, asked_command, command_
 use Rattle.saber_words.specs.Chain.{asked_chain}
 use Rattle.saber_words.specs.Demo.{asked_demo}
 use Rattle.saber_chain.specs.Sinks.{seen_of}
-use Rattle.saber_cli.specs.Gives.{Gives, Answers}
+use Rattle.saber_cli.specs.Gives.{Gives}
 use Rattle.saber_cli.specs.Tells.{TellsRun}
 use Rattle.saber_cli.specs.Outcomes.{IsOfSecond}
 use Rattle.saber_cli.specs.Chained.{AnswersChain}
@@ -16,7 +16,7 @@ use Rattle.saber_cli.proofs.PlanLemmas.{put_alone}
 use Rattle.saber_cli.proofs.ChainRunLemmas.{unread_alone, unread_chained}
 use Rattle.saber_cli.proofs.AnsweredLemmas.{for_any}
 use Rattle.saber_cli.proofs.RunLemmas.{some_map}
-use Rattle.saber_cli.proofs.WordLemmas.{answers_of, unread_answers, unread_leave, unread_not_read}
+use Rattle.saber_cli.proofs.WordLemmas.{Answers, answers_of, unread_answers, unread_leave, unread_not_read}
 use Rattle.saber_cli.proofs.DemoLemmas.{gives_told, tell_leaves, unread_told}
 use Rattle.saber_cli.specs.Writes.{WritesTold}
 use Rattle.saber_cli.proofs.WriteLemmas.{unread_unwritten}
@@ -28,7 +28,7 @@ returns-in-Err-clause-written g c =
       [],
       appended-none _,
       λ n. for_any (λ (t : FilesView). Answers ws t.contents c.unread.result 0 []) _
-          (λ t. subst (λ o. Answers ws t.contents o 0 []) (sym c.unread.ensures) (unread_answers ws t.contents c.in-Err.fault (λ e. c.in-Err.ensures.usage (ap Err e)))),
+          (λ t. subst (λ o. Answers ws t.contents o 0 []) (sym c.unread.ensures) (unread_answers ws t.contents c.in-Err.fault n (λ e. c.in-Err.ensures.usage (ap Err e)))),
     )
 
 pub returns-in-Run-clause-written : goal.returns-in-Run-clause-written
