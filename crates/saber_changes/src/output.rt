@@ -36,12 +36,7 @@ impl Output {
     /// Passes the windows below `low`, which have no answer, and appends what the first of them
     /// loses.
     #[inline(always)]
-    pub fn skip(
-        &mut self,
-        alloc: Global,
-        low: u64,
-        out: &mut Vec<u8>,
-    ) -> Result<(), NoMemory>
+    pub fn skip(&mut self, alloc: Global, low: u64, out: &mut Vec<u8>) -> Result<(), NoMemory>
         requires { IsUpTo self.old low }
         ensures passed { OnOk result ((at : ℕ → a.Answers) (n : ℕ) → ((i : ℕ) → n ≤ i → i < low → at i ≡ []) → IsBefore self.old n → StandsIn at self.old
             → Passed at self.old self.new n low out.old.items out.new.items) }

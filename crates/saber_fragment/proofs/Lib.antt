@@ -1,3 +1,2 @@
 mod Slicing
 pub mod LookingBack
-pub mod Grown

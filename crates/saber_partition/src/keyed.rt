@@ -82,8 +82,7 @@ impl Keyed {
         ensures steps { OnOk result (steps.new + self.new.windows.slices.owed + self.old.windows.next ≤ steps.old + self.old.windows.slices.owed + 2 + self.new.windows.next) }
     {
         self.take_part(alloc, past, parts, part, steps)?;
-        self.windows
-            .close_lines(alloc, plan, low, out, steps)?;
+        self.windows.close_lines(alloc, plan, low, out, steps)?;
         Ok(())
     }
 }

@@ -1,3 +1,4 @@
+pub mod Appended
 pub mod Cases
 mod WorkedFiles
 mod WorkedAnswers

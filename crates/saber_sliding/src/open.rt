@@ -125,15 +125,7 @@ impl Open {
             self.slices.drop_to(self.next);
             match self.slices.first_number() {
                 Some(_) => {
-                    pass(
-                        output,
-                        alloc,
-                        plan,
-                        self.next,
-                        &mut self.slices,
-                        out,
-                        steps,
-                    )?;
+                    pass(output, alloc, plan, self.next, &mut self.slices, out, steps)?;
                     self.next += 1;
                 }
                 None => {

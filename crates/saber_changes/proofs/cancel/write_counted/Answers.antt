@@ -3,7 +3,7 @@ use Rattle.std.proofs.lemmas.List.{drop_all}
 use Rattle.saber_plan.specs.Answers.{answer_lines}
 use Rattle.saber_changes.specs.Counts.{counts_of, tally, by_counts}
 use Rattle.saber_changes.proofs.Cancelling.{counts_cancel, next_line, cancels, is_written}
-use Rattle.saber_digits.proofs.Appended.{behind_both, behind_itself}
+use Rattle.saber_plan.proofs.Appended.{behind_both, behind_itself}
 use Rattle.saber_changes.proofs.cancel.write_counted.Goals as goal
 
 pub loop-i-init : goal.loop-i-init

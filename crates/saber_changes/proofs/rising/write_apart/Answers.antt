@@ -3,7 +3,7 @@ use Rattle.std.proofs.lemmas.List.{drop_all}
 use Rattle.saber_plan.specs.Answers.{line, uncancelled_answers, answer_lines}
 use Rattle.saber_changes.specs.Rising.{Rises}
 use Rattle.saber_changes.proofs.Cancelling.{next_line}
-use Rattle.saber_digits.proofs.Appended.{behind_both, behind_itself}
+use Rattle.saber_plan.proofs.Appended.{behind_both, behind_itself}
 use Rattle.saber_changes.proofs.rising.write_apart.Goals as goal
 
 pub loop-i-preserved-then-is_cancelled : goal.loop-i-preserved-then-is_cancelled

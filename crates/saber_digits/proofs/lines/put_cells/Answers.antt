@@ -3,7 +3,7 @@ use Rattle.std.specs.Fmt.{signed_decimal}
 use Rattle.std.specs.Int.{w128}
 use Rattle.std.proofs.lemmas.List.{flat_map_more, take_all, take_more}
 use Rattle.saber_digits.specs.Cells.{cells, drafted_text}
-use Rattle.saber_digits.proofs.Appended.{behind_both, behind_itself}
+use Rattle.saber_plan.proofs.Appended.{behind_both, behind_itself}
 use Rattle.saber_digits.proofs.lines.put_cells.Goals as goal
 
 pub loop-number-init : goal.loop-number-init

@@ -7,7 +7,7 @@ use Rattle.saber_digits.specs.Cells.{cells, drafted_text}
 use Rattle.saber_plan.specs.Answers.{items_over}
 use Rattle.saber_plan.specs.Facts.Lists.{all_at}
 use Rattle.saber_partial.specs.Printing.{joined_row, IsLone}
-use Rattle.saber_digits.proofs.Appended.{behind_both}
+use Rattle.saber_plan.proofs.Appended.{behind_both}
 use Rattle.saber_partial.proofs.Lined.{written_cell}
 use Rattle.saber_partial.proofs.joined_lines.write_both_cells.Goals as goal
 

@@ -3,7 +3,7 @@ use Rattle.std.specs.Result.{IfOk}
 use Rattle.std.proofs.lemmas.List.{drop_all}
 use Rattle.saber_digits.specs.Cells.{drafted_text}
 use Rattle.saber_partial.specs.Printing.{lines_for}
-use Rattle.saber_digits.proofs.Appended.{behind_both}
+use Rattle.saber_plan.proofs.Appended.{behind_both}
 use Rattle.saber_partial.proofs.Lined.{walked_lines}
 use Rattle.saber_partial.proofs.joined_lines.write_woven.Goals.{then-loop-i-test+else-j-len, else-loop-i-test}
 use Rattle.saber_partial.proofs.joined_lines.write_woven.Goals as goal

@@ -3,7 +3,7 @@ use Rattle.std.proofs.lemmas.List.{drop_more}
 use Rattle.saber_plan.specs.Answers.{items_over}
 use Rattle.saber_digits.specs.Cells.{drafted_text}
 use Rattle.saber_partial.specs.Flat.{entry_in}
-use Rattle.saber_digits.proofs.Appended.{behind_both}
+use Rattle.saber_plan.proofs.Appended.{behind_both}
 use Rattle.saber_partial.proofs.Lined.{written_one}
 use Rattle.saber_partial.proofs.Listed.{of_row}
 use Rattle.saber_partial.proofs.lines.write_groups.Goals as goal

@@ -2,7 +2,7 @@ use Rattle.std.proofs.Common.{List, max, sym, ◌∙◌, ap, refl, subst, ℤ}
 use Rattle.std.proofs.lemmas.Map.Iter.{rest_more, rest_all}
 use Rattle.arrayvec.specs.ArrayVec.{ArrayVec}
 use Rattle.saber_plan.specs.Trees.{tree_of}
-use Rattle.saber_fragment.proofs.Grown.{behind_itself, behind_both}
+use Rattle.saber_plan.proofs.Appended.{behind_itself, behind_both}
 use Rattle.saber_partition.specs.declared.keyed.Keyed.{Keyed}
 use Rattle.saber_partition.specs.Stores.{own_of, lists_of}
 use Rattle.saber_partition.proofs.Coming.{Left_to_print, left_all, left_less, left_none}

@@ -2,7 +2,7 @@ use Rattle.std.proofs.Common.{ℤ, sym, ◌∙◌, ap, subst}
 use Rattle.std.specs.BTreeMap.{BTreeMap}
 use Rattle.arrayvec.specs.ArrayVec.{ArrayVec}
 use Rattle.saber_plan.specs.Trees.{tree_of}
-use Rattle.saber_fragment.proofs.Grown.{behind_itself}
+use Rattle.saber_plan.proofs.Appended.{behind_itself}
 use Rattle.saber_partition.specs.declared.keyed.Keyed.{Keyed}
 use Rattle.saber_partition.specs.Lists.{TakenAll}
 use Rattle.saber_partition.specs.Stores.{lists_of}

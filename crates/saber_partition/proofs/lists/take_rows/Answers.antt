@@ -1,7 +1,7 @@
 use Rattle.std.proofs.Common.{List, map, ap, subst}
 use Rattle.std.specs.Vec.Iter.{into_iter_items}
 use Rattle.saber_plan.specs.Trees.{tree_of}
-use Rattle.saber_fragment.proofs.Grown.{behind_itself, behind_both}
+use Rattle.saber_plan.proofs.Appended.{behind_itself, behind_both}
 use Rattle.saber_partition.specs.declared.pieces.RowPiece.{RowPiece}
 use Rattle.saber_partition.specs.Stores.{lists_of, made_of}
 use Rattle.saber_partition.proofs.Coming.{Along, along_nil, behind, next_row, along_can, along_more, along_done}

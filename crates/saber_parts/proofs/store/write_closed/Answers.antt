@@ -1,7 +1,7 @@
 use Rattle.std.proofs.Common.{◌++◌, [], append-nil, sym, ◌∙◌, ap, append_assoc}
 use Rattle.saber_plan.specs.Parts.{part_lines}
 use Rattle.saber_fragment.specs.Shown.{windows_by}
-use Rattle.saber_fragment.proofs.Grown.{behind_both}
+use Rattle.saber_plan.proofs.Appended.{behind_both}
 use Rattle.saber_parts.specs.Stored.{lines_of}
 use Rattle.saber_parts.proofs.Ranged.{range_below}
 use Rattle.saber_parts.proofs.store.write_closed.Goals as goal

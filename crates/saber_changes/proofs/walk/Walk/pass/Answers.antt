@@ -1,6 +1,6 @@
 use Rattle.std.proofs.Common.{refl}
 use Rattle.saber_changes.proofs.Walking.{passed}
-use Rattle.saber_digits.proofs.Appended.{behind_both}
+use Rattle.saber_plan.proofs.Appended.{behind_both}
 use Rattle.saber_changes.proofs.walk.Walk.pass.Goals as goal
 
 pub returns-clause-ok : goal.returns-clause-ok

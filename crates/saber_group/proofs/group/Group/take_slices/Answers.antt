@@ -3,7 +3,7 @@ use Rattle.std.specs.Vec.Iter.{into_iter_items}
 use Rattle.saber_plan.specs.declared.plans.Plan.{Plan}
 use Rattle.saber_plan.specs.Answers.{Answers}
 use Rattle.saber_plan.specs.Trees.{tree_of}
-use Rattle.saber_fragment.proofs.Grown.{behind_itself, behind_both}
+use Rattle.saber_plan.proofs.Appended.{behind_itself, behind_both}
 use Rattle.saber_changes.specs.Outputs.{IsBefore, Passed, StandsIn}
 use Rattle.saber_sliding.specs.Windows.{AnswersOf}
 use Rattle.saber_changes.specs.OutputFacts.{passed_nil, passed_on}

@@ -1,6 +1,6 @@
 use Rattle.std.proofs.Common.{◌≡◌, ℕ, ◌++◌, max, None, ◌∙◌, ap, subst}
 use Rattle.saber_plan.specs.Trees.{tree_of}
-use Rattle.saber_fragment.proofs.Grown.{behind_itself}
+use Rattle.saber_plan.proofs.Appended.{behind_itself}
 use Rattle.saber_changes.specs.Outputs.{printed_from}
 use Rattle.saber_sliding.specs.Windows.{answers_at}
 use Rattle.saber_partition.specs.Streams.{part_in}

@@ -1,7 +1,7 @@
 use Rattle.std.proofs.Common.{map, ◌++◌, sym, subst}
 use Rattle.saber_plan.specs.declared.plans.Plan.{Plan}
 use Rattle.saber_plan.specs.Trees.{tree_of}
-use Rattle.saber_fragment.proofs.Grown.{behind_both}
+use Rattle.saber_plan.proofs.Appended.{behind_both}
 use Rattle.saber_partition.specs.Pieces.{Follow, Followed}
 use Rattle.saber_partition.specs.Stores.{lists_of, made_of}
 use Rattle.saber_partition.proofs.Taking.{old_rows, new_rows, rows_come, followed}
