@@ -2,6 +2,5 @@ pub mod Counts
 pub mod Rising
 pub mod Spans
 pub mod Walks
-pub mod WalkFacts
 pub mod Outputs
 pub mod OutputFacts

@@ -2,7 +2,6 @@
 use Rattle.std.proofs.Common.{◌≡◌, ℕ, ◌+◌, ◌-◌, ◌≤◌, ◌<◌, List, [], ◌∷◌, ◌++◌, flat_map, map, ℤ, pos, Option, Some, None, refl, sym, ◌∙◌, ap, subst, append-nil, append_assoc, arith}
 use Rattle.std.proofs.lemmas.List.Concat.{flat_map-append}
 use Rattle.saber_plan.specs.Trees.{Tree}
-use Rattle.saber_plan.specs.Texts.{Behind}
 use Rattle.saber_plan.specs.Windows.{from}
 use Rattle.saber_plan.specs.Answers.{Answers, Change as Changing, Entry, line, alike, by_change, answer_lines}
 use Rattle.saber_plan.specs.Facts.Numbers.{flat_nil, flat_step, flat_none, from_more}
@@ -101,7 +100,3 @@ each_way None e = refl
 each_way (Some change) e = absurd (changes_not (change_of change) e) where
   changes_not : (f : Changing) → by_change f ≡ alike → ⊥
   changes_not f e = cc
-
--- a text that has grown twice
-pub behind_both : (xs ys zs : List ℕ) → Behind xs ys → Behind ys zs → Behind xs zs
-behind_both xs ys zs a b = record { more = a.more ++ b.more; all = b.all ∙ ap (λ l. l ++ b.more) a.all ∙ append_assoc xs a.more b.more }

@@ -1,5 +1,5 @@
 -- What closed windows print, of any answers by window.
-use Rattle.std.specs.Prelude.{◌≡◌, ℕ, ◌-◌, ◌≤◌, ◌<◌, List, [], ◌++◌, flat_map, Option, Some, None}
+use Rattle.std.specs.Prelude.{◌≡◌, ℕ, ◌-◌, ◌≤◌, List, [], ◌++◌, flat_map, Option, Some, None}
 use Rattle.saber_plan.specs.Windows.{from}
 use Rattle.saber_plan.specs.Answers.{Answers, Way, alike, by_change, answer_lines}
 use Rattle.saber_changes.specs.declared.cancel.Change.{Change}

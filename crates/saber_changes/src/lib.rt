@@ -8,7 +8,8 @@
 //!   `rising` (the same in one walk over both, where the lines of both rise), `walk` (`Walk`),
 //!   `output` (`Output`: what is printed of closed windows, lines or changes).
 //! - Calls: `Walk::pass` takes the answers of a window, `Walk::reach` passes windows without any;
-//!   both append what the windows passed gain, or lose (`Change`).
+//!   both append what the windows passed gain, or lose (`Change`). `Output::skip` passes windows
+//!   without any under either output.
 //! - Proved: for any answers by window, the text grows by the lines of the bag differences of the
 //!   definition (`saber_plan/specs/Answers.antt`), and the walk keeps the answers of the window
 //!   before its next one (`specs/Walks.antt`). After want of memory some of the text may be there.

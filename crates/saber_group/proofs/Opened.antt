@@ -13,7 +13,7 @@ use Rattle.saber_partial.proofs.Counted.{small_merge, small_stay}
 use Rattle.saber_sliding.specs.Entries.{Entries, pushed_entries, dropped_entries, part_at, CanFollow, Entered}
 use Rattle.saber_sliding.specs.EntryFacts.{all_map, all_dropped, all_pushed, part_at-dropped, part_at-pushed, part_at-behind}
 use Rattle.saber_sliding.specs.Windows.{AnswersOf}
-use Rattle.saber_group.specs.SliceParts.{part_of, answers_over, begun_by, EnteredFrom, IsSlice, Holds, Settled}
+use Rattle.saber_group.specs.SliceParts.{answers_over, begun_by, EnteredFrom, IsSlice, Holds, Settled}
 use Rattle.saber_group.proofs.Lasting.{part_nil, few_more}
 use Rattle.saber_plan.specs.Facts.Parts.{merge-empty_right}
 

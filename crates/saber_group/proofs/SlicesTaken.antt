@@ -1,5 +1,5 @@
 -- Slices that are taken in, one after another, behind the rows of earlier tasks.
-use Rattle.std.proofs.Common.{◌≡◌, ℕ, suc, ◌+◌, ◌-◌, ◌^◌, ◌≤◌, ◌<◌, List, [], ◌∷◌, ◌++◌, filter, map, length, max, take, refl, sym, ◌∙◌, ap, subst, append-nil, arith, Global}
+use Rattle.std.proofs.Common.{◌≡◌, ℕ, suc, ◌+◌, ◌-◌, ◌^◌, ◌≤◌, ◌<◌, List, [], ◌∷◌, ◌++◌, filter, map, length, max, take, sym, ◌∙◌, ap, subst, append-nil, arith, Global}
 use Rattle.std.proofs.lemmas.List.{map-append, nil_from_length, take_all}
 use Rattle.std.specs.Vec.Iter.{into_iter_len, into_iter_items}
 use Rattle.std.specs.declared.vec.IntoIter.{IntoIter}

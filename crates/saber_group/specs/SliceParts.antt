@@ -1,5 +1,5 @@
 -- Parts of windows over rows, slices of rows, and what a queue of slices has of them.
-use Rattle.std.specs.Prelude.{◌≡◌, ℕ, ◌-◌, ◌≤◌, ◌<◌, List, [], ◌∷◌, ◌++◌, Bool, ◌&&◌, if◌then◌else◌, filter, flat_map, take, length, ◌⊎◌}
+use Rattle.std.specs.Prelude.{◌≡◌, ℕ, ◌-◌, ◌≤◌, ◌<◌, List, [], ◌∷◌, Bool, ◌&&◌, if◌then◌else◌, filter, flat_map, take, length, ◌⊎◌}
 use Rattle.std.specs.List.{AllByRecursion}
 use Rattle.saber_plan.specs.declared.rows.Row.{Row}
 use Rattle.saber_plan.specs.declared.windows.Mark.{Mark}
@@ -7,7 +7,7 @@ use Rattle.saber_plan.specs.Trees.{Tree}
 use Rattle.saber_plan.specs.Values.{passes}
 use Rattle.saber_plan.specs.Windows.{mark_after, placed_after, has, closed_count, begun_count, from}
 use Rattle.saber_plan.specs.Answers.{Answers, frame, passing_values}
-use Rattle.saber_plan.specs.Parts.{Part, no_part, group_part, merge, part_answers, part_lines}
+use Rattle.saber_plan.specs.Parts.{Part, group_part, merge, part_answers, part_lines}
 use Rattle.saber_partial.specs.PartLaws.{OfRows}
 use Rattle.saber_sliding.specs.Entries.{Entries, part_at, Entered}
 

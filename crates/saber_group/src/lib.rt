@@ -1,9 +1,9 @@
 //! The operator of group queries (SABER 2016: the fragment function of an aggregation by groups).
-//! It goes over a task once, by slices: rows one after another that lie in the
-//! same windows. A slice is worked out once, and goes into each window that has it, so a window
-//! without a row that passes costs nothing, and neither does a gap in time. Windows print their
-//! answers, as without a stream word and under RSTREAM, or under ISTREAM and DSTREAM what they gain
-//! or lose against the window before. The engine runs them; docs/TASKS.md follows the first.
+//! It goes over a task once, by slices: rows one after another that lie in the same windows. A
+//! slice is worked out once, and goes into each window that has it, so a window without a row that
+//! passes costs nothing, and neither does a gap in time. Windows print their answers, as without a
+//! stream word and under RSTREAM, or under ISTREAM and DSTREAM what they gain or lose against the
+//! window before. The engine runs it; docs/TASKS.md follows it.
 //!
 //! - Parts: `group` (`Group`, over its plan), `batch` and `rows` (a task's rows), `slices`,
 //!   `complete` (windows that a task answers itself), `slice_pieces`, `slice_stores`, `operator`

@@ -8,8 +8,8 @@
 //! - Parts: `join` (`Join`, over its plan), `ties` (the equality of WHERE that gives keys), `draft`
 //!   and `back` (rows looked back on), `seen`, `shelf` and `held_rows` (rows by buckets of their
 //!   keys), `windows` (the pairs of a task), `pairs`, `lines` and `answers` (a window's part, its
-//!   text and its answers), `pieces` (what a task gives of them),
-//!   `assembles` (their merge), `operator` (the trait's calls).
+//!   text and its answers), `pieces` (what a task gives of them), `assembles` (their merge),
+//!   `operator` (the trait's calls).
 //! - Calls: `JoinOperator::new` takes a checked plan whose windows print their answers as they are,
 //!   without a stream word or with RSTREAM; `JoinOperator::changing` takes one with ISTREAM or
 //!   DSTREAM, and the change that it asks for. The rest is by the trait of `saber_fragment`.

@@ -17,7 +17,7 @@ use Rattle.saber_changes.specs.declared.output.Output.{Output}
 use Rattle.saber_changes.specs.declared.output.Output.TheVariants.{Each, Delta}
 use Rattle.saber_changes.specs.Counts.{change_of}
 use Rattle.saber_parts.specs.Changing.{Hands, Handed}
-use Rattle.saber_parts.specs.Taking.{given_between, kept_by, HasTaken, IsGiven}
+use Rattle.saber_parts.specs.Taking.{kept_by, HasTaken, IsGiven}
 
 -- the piece is the next one
 abbrev pub Next : Tree → Parts → Output → Shares → Input → ℕ → ℕ → Type 0

@@ -32,6 +32,7 @@ impl<P: Drop> PartStore<P> {
     /// No part, of windows that print their lines, or this change. Takes no memory.
     pub fn new(alloc: Global, change: Option<Change>) -> PartStore<P>
         ensures parts { result.parts.entries ≡ [] }
+        ensures closed { result.closed_below ≡ 0 }
         ensures change { change_in result.output ≡ change }
         ensures before { IsBefore result.output 0 }
         ensures last { last_in result.output ≡ [] }
@@ -77,6 +78,7 @@ impl<P: Drop> PartStore<P> {
     /// Drops the parts of closed windows. Takes no memory.
     pub fn drop_closed(&mut self)
         ensures parts { self.new.parts.entries ≡ filter (λ e. nat_le self.old.closed_below e.0) self.old.parts.entries }
+        ensures closed { self.new.closed_below ≡ self.old.closed_below }
         ensures output { self.new.output ≡ self.old.output }
     {
         let closed_below = self.closed_below;

@@ -1,14 +1,10 @@
 -- Windows of a queue that are closed, one after another.
-use Rattle.std.proofs.Common.{◌≡◌, ℕ, ◌+◌, ◌-◌, ◌≤◌, ◌<◌, List, [], ◌∷◌, ◌++◌, flat_map, map, ℤ, pos, Bool, true, false, cond, nat_le, Option, Some, None, refl, sym, ◌∙◌, ap, subst, append-nil, append_assoc, le_trans, arith}
+use Rattle.std.proofs.Common.{◌≡◌, ℕ, ◌≤◌, [], ◌∷◌, map, Bool, true, false, cond, nat_le, refl, sym, ◌∙◌, ap, le_trans, arith}
 use Rattle.std.proofs.lemmas.Bool.Decides.{nat_tests}
-use Rattle.std.proofs.lemmas.List.Concat.{flat_map-append}
 use Rattle.saber_plan.specs.Trees.{Tree}
-use Rattle.saber_plan.specs.Texts.{Behind}
-use Rattle.saber_plan.specs.Windows.{from}
-use Rattle.saber_plan.specs.Answers.{Answers, Change as Changing, Entry, key_cmp, line, alike, by_change, answer_lines}
+use Rattle.saber_plan.specs.Answers.{Entry, key_cmp}
 use Rattle.saber_plan.specs.Facts.Maps.{entries-empty}
-use Rattle.saber_plan.specs.Facts.Numbers.{flat_nil, flat_step, flat_none, from_more}
-use Rattle.saber_plan.specs.Parts.{Part, no_part, group_answer, answers_in, part_answers, part_lines}
+use Rattle.saber_plan.specs.Parts.{Part, no_part, group_answer, part_answers}
 use Rattle.saber_sliding.specs.Entries.{Entries, whole, dropped_entries, part_at}
 use Rattle.saber_sliding.specs.EntryFacts.{whole-dropped}
 

@@ -7,8 +7,8 @@
 //!
 //! - Parts: `picked` (`Picked`, the rows of one window), `lines` and `answers` (what is printed of
 //!   them), `select` (the selection, over its plan), `windows` (the windows of a task, by number),
-//!   `pieces` (what they give), `assembles` (their merge from task to
-//!   task), `operator` (`WindowedOperator`).
+//!   `pieces` (what they give), `assembles` (their merge from task to task), `operator`
+//!   (`WindowedOperator`).
 //! - Calls: `WindowedOperator::new` takes a checked plan with RSTREAM, `WindowedOperator::changing`
 //!   one and which change its word asks for; the rest is by the trait of `saber_fragment`.
 //! - Proved: `start` gives exactly the shares of the definition, or what is handed on, from the

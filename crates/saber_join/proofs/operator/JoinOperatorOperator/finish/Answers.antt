@@ -1,4 +1,4 @@
-use Rattle.std.proofs.Common.{◌≡◌, ℕ, subst}
+use Rattle.std.proofs.Common.{ℕ, subst}
 use Rattle.std.specs.Result.{IfOk}
 use Rattle.saber_plan.specs.Inputs.{Input}
 use Rattle.saber_plan.specs.Trees.{tree_of}

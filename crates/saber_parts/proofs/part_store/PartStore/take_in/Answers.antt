@@ -2,7 +2,7 @@ use Rattle.std.proofs.Common.{ℕ, sym, ◌∙◌, subst}
 use Rattle.saber_plan.specs.Inputs.{Input}
 use Rattle.saber_fragment.specs.Shown.{shares_of}
 use Rattle.saber_changes.specs.declared.output.Output.{Output}
-use Rattle.saber_changes.specs.declared.output.Output.TheVariants.{Each, Delta}
+use Rattle.saber_changes.specs.declared.output.Output.TheVariants.{Delta}
 use Rattle.saber_parts.specs.Stored.{parts_by, parts_from}
 use Rattle.saber_parts.specs.Changing.{Handed}
 use Rattle.saber_parts.proofs.Taken.{Next, Took, continues, each_took, hands, closed_is, delta_took}

@@ -1,8 +1,9 @@
-use Rattle.std.proofs.Common.{◌≡◌, ◌+◌, ◌<◌, [], refl, sym, ◌∙◌, ap, append-nil, le_trans, arith}
+use Rattle.std.proofs.Common.{◌≡◌, ◌+◌, [], refl, sym, ◌∙◌, ap, append-nil, le_trans, arith}
 use Rattle.saber_plan.specs.Parts.{part_answers}
 use Rattle.saber_plan.specs.Trees.{tree_of}
 use Rattle.saber_sliding.specs.EntryFacts.{nothing_first}
-use Rattle.saber_changes.specs.OutputFacts.{behind_both, passed_nil, passed_on, up_to}
+use Rattle.saber_plan.proofs.Appended.{behind_both}
+use Rattle.saber_changes.specs.OutputFacts.{passed_nil, passed_on, up_to}
 use Rattle.saber_sliding.proofs.Closed.{none_left, same_dropped, same_later, whole_is}
 use Rattle.saber_sliding.proofs.open.Open.close.Goals as goal
 

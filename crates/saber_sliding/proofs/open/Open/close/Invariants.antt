@@ -1,4 +1,4 @@
-use Rattle.std.proofs.Common.{◌≡◌, ℕ, ◌+◌, ◌-◌, ◌≤◌, max}
+use Rattle.std.proofs.Common.{ℕ, ◌+◌, ◌-◌, ◌≤◌, max}
 use Rattle.saber_plan.specs.Answers as a
 use Rattle.saber_plan.specs.Texts.{Behind}
 use Rattle.saber_plan.specs.Trees.{tree_of}
