@@ -9,6 +9,9 @@ use Rattle.saber_dispatch.specs.declared.ends.End.{End}
 use Rattle.saber_dispatch.specs.declared.cutter.Cutter.{Cutter}
 use Rattle.saber_dispatch.specs.Cutting.{Cuts, Filled, ended_by, stops}
 use Rattle.saber_dispatch.specs.Closing.{Closes}
+use Rattle.saber_dispatch.specs.Filling.{Fills}
+use Rattle.saber_dispatch.specs.Readings.{reading_of}
+use Rattle.saber_dispatch.specs.declared.reader.Reader.{Reader}
 use Rattle.saber_dispatch.proofs.BlockReads.{is_rows, is_filled, is_ended}
 
 abbrev Lefts : Type 0
@@ -35,6 +38,21 @@ module _ (q : Tree) (s : Sizes) (had has : Lefts) (c : Cutter) (r : Input) (fill
       let done = is_ended q s had k.there has k.start r k.cuts k.goes filled c.reader c.mark [] rows refl k.fills filled end refl h in
       let here = subst (λ (x : Cutter). Cuts q s had has x r) (sym (with_end (ended_by filled))) done.1 in
       (e ∙ done.0, subst (λ (y : Option End). Cuts q s had has (at y) r) (sym e) here)
+
+-- rows that were read behind the blocks that a cutter gave
+pub read_closes : (q : Tree) (s : Sizes) (had has now : Lefts) (c : Cutter) (r : Input) (filled : Result (Unit {0}) End) (new : Reader) (mark : Mark) (start rows kept : List Row) →
+    start ≡ [] → kept ≡ rows → Cuts q s had has c r → c.ended ≡ None → Fills filled q c.size c.mark mark (reading_of c.reader) (reading_of new) has now start rows →
+    Closes q s had now (record c { reader = new; mark = mark }) r filled c.mark kept
+read_closes q s had has now c r filled new mark start rows kept empty same k goes f = record {
+  start = c;
+  there = has;
+  cuts = k;
+  goes = goes;
+  same = refl;
+  before_is = refl;
+  fills = subst (λ xs. Fills filled q c.size c.mark mark (reading_of c.reader) (reading_of new) has now [] xs) (sym same)
+      (subst (λ xs. Fills filled q c.size c.mark mark (reading_of c.reader) (reading_of new) has now xs rows) empty f);
+}
 
 -- why a block is closed
 pub ended_is : (filled : Result (Unit {0}) End) (end : End) → ended_by filled ≡ Some end → filled ≡ Err end

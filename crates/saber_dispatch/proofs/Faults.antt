@@ -1,9 +1,12 @@
 -- Counts of faults, call after call.
-use Rattle.std.proofs.Common.{◌≡◌, ◌∙◌, ℕ, List, [], ◌∷◌, Bool, true, false, cond, sym, ap, arith}
-use Rattle.std.specs.Prelude.{Option, Some, None, Result, Ok, Err}
+use Rattle.std.proofs.Common.{◌≡◌, ◌∙◌, ℕ, List, [], ◌∷◌, Bool, true, false, cond, refl, sym, ap, arith}
+use Rattle.std.specs.Prelude.{Option, Some, None, Result, Err}
 use Rattle.saber_dispatch.specs.declared.ends.End.{End}
 use Rattle.saber_dispatch.specs.declared.ends.End.TheVariants.{AllRead, Bad, ReadFault, TooWide, NoMemory}
-use Rattle.saber_dispatch.specs.Cutting.{stops, ended_by, told_end, is_due}
+use Rattle.saber_fragment.specs.declared.blocks.Block.{Block}
+use Rattle.saber_dispatch.specs.declared.cutter.Cut.{Cut}
+use Rattle.saber_dispatch.specs.declared.cutter.Cut.TheVariants as cuts
+use Rattle.saber_dispatch.specs.Cutting.{stops, told_end, is_due}
 use Rattle.saber_plan.specs.declared.rows.Side.{Side}
 use Rattle.saber_plan.specs.declared.rows.Side.TheVariants.{Left, Right}
 use Rattle.saber_dispatch.specs.Sources.{RoseAt, NoneFell}
@@ -55,12 +58,6 @@ lack_stops filled count end f e = let same : Some NoMemory ≡ Some end = sym (a
 pub lack_goes_on : (filled : Result (Unit {0}) End) (count : ℕ) → filled ≡ Err NoMemory → stops filled count ≡ None → ⊥
 lack_goes_on filled count f e = let same : Some NoMemory ≡ None = sym (ap (λ r. stops r count) f) ∙ e in cc
 
-pub fault_ended : (filled : Result (Unit {0}) End) (side : Side) → ended_by filled ≡ Some (ReadFault side) → filled ≡ Err (ReadFault side)
-fault_ended (Ok u) side e = absurd (none_some e) where
-  none_some : ◌≡◌ {A = Option End} None (Some (ReadFault side)) → ⊥
-  none_some i = cc
-fault_ended (Err end) side e = let same : end ≡ ReadFault side = cc in ap (λ x. Err x) same
-
 pub all_not_fault : (side : Side) → ◌≡◌ {A = Option End} (Some AllRead) (Some (ReadFault side)) → ⊥
 all_not_fault side e = cc
 
@@ -71,11 +68,42 @@ wide_not_all task needs end w e = cc
 pub wide_not_fault : (task needs : ℕ) (end : End) (side : Side) → end ≡ TooWide task needs → ◌≡◌ {A = Option End} (Some end) (Some (ReadFault side)) → ⊥
 wide_not_fault task needs end side w e = cc
 
+pub wide_no_fault : (task needs : ℕ) (end : End) (side : Side) → end ≡ TooWide task needs → end ≡ ReadFault side → ⊥
+wide_no_fault task needs end side w e = cc
+
 pub lack_not_all : ◌≡◌ {A = Option End} (Some NoMemory) (Some AllRead) → ⊥
 lack_not_all e = cc
 
 pub lack_not_fault : (side : Side) → ◌≡◌ {A = Option End} (Some NoMemory) (Some (ReadFault side)) → ⊥
 lack_not_fault side e = cc
+
+pub lack_no_fault : (side : Side) → ◌≡◌ {A = End} NoMemory (ReadFault side) → ⊥
+lack_no_fault side e = cc
+
+-- a block is no end
+pub block_no_end : (b : Block) (end : End) → ◌≡◌ {A = Cut} (cuts.Block b) (cuts.Ended end) → ⊥
+block_no_end b end e = cc
+
+pub same_told : (a b : End) → ◌≡◌ {A = Cut} (cuts.Ended a) (cuts.Ended b) → a ≡ b
+same_told a b e = cc
+
+-- only where all is read is the end's block to come
+off : true ≡ false → ⊥
+off e = cc
+
+pub due_all : (flush : Bool) (count : ℕ) (end : End) → is_due flush count end ≡ true → end ≡ AllRead
+due_all flush count AllRead h = refl
+due_all flush count (Bad s l c) h = absurd (off (sym h))
+due_all flush count (ReadFault s) h = absurd (off (sym h))
+due_all flush count (TooWide t n) h = absurd (off (sym h))
+due_all flush count NoMemory h = absurd (off (sym h))
+
+pub not_due : (flush : Bool) (count : ℕ) (end : End) → is_due flush count end ≡ true → is_due flush count end ≡ false → ⊥
+not_due flush count end h k = off (sym h ∙ k)
+
+-- the end that is told where no block of it is to come
+pub told_as : (flush : Bool) (count : ℕ) (ended : Option End) (end : End) → ended ≡ Some end → is_due flush count end ≡ false → told_end flush count ended ≡ Some end
+told_as flush count ended end e h = ap (told_end flush count) e ∙ ap (λ b. cond {A = Option End} b None (Some end)) h
 
 -- a fault is told at once
 pub fault_told : (flush : Bool) (count : ℕ) (ended : Option End) (side : Side) → told_end flush count ended ≡ Some (ReadFault side) → ended ≡ Some (ReadFault side)

@@ -11,6 +11,7 @@ pub mod TimedLasts
 pub mod NextTasks
 pub mod BlockLists
 pub mod BlockCuts
+pub mod BlockCounts
 pub mod BlockReads
 pub mod Closings
 pub mod EndBlocks

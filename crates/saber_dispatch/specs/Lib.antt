@@ -6,6 +6,7 @@ pub mod Telling
 pub mod Supplying
 pub mod Leaving
 pub mod Closing
+pub mod Looking
 pub mod Keeping
 pub mod FedReadings
 pub mod FedFilling

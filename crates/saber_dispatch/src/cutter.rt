@@ -14,6 +14,7 @@ ghost use Rattle.saber_dispatch.specs.Cutting.{Behind, LooksBack, IsFirstOf, May
 ghost use Rattle.saber_dispatch.specs.Readings.{reading_of};
 ghost use Rattle.saber_dispatch.specs.Serving.{AreCutAlike};
 ghost use Rattle.saber_dispatch.specs.Closing.{EndStays};
+ghost use Rattle.saber_dispatch.specs.Looking.{Looked, BlockCounted};
 ghost use Rattle.saber_dispatch.specs.Ending.{is_end_due, EndsEach};
 ghost use Rattle.saber_plan.specs.Trees.{tree_of};
 ghost use Rattle.saber_plan.specs.Checked.{IsChecked};
@@ -23,6 +24,7 @@ use crate::ends::End;
 use crate::fill::fill;
 use crate::inputs::Inputs;
 use crate::lasts::Lasts;
+use crate::letting::let_rows_go;
 use crate::opening::{end_counts, lasts_for, reader_for};
 use crate::reader::Reader;
 use saber_flat::{RowBuilder, Rows};
@@ -193,6 +195,43 @@ impl Cutter {
         })
     }
 
+    // The first block that the next task looks back on, if there is room for so many; else why the
+    // task isn't given.
+    fn first_needed(&mut self, before: &Mark) -> Result<u64, End>
+        requires { (q : Tree) × (n : ℕ) × (xs : List Row) × Behind q n xs self.old.number before.now × LooksBack q n xs self.old.number self.old.lasts }
+        ensures looked { Looked before.now result self.old self.new }
+        ensures few { self.old.number ≤ 2 ^ 41 }
+    {
+        let first = look_back(&mut self.lasts, self.number, before);
+        match too_wide(self.number, first, self.room) {
+            None => Ok(first),
+            Some(end) => {
+                self.ended = Some(end);
+                Err(end)
+            }
+        }
+    }
+
+    // Counts the block of these rows, which were read, as given, and answers the first block that
+    // its task looks back on; or why it isn't given.
+    fn count_block(&mut self, before: &Mark, rows: &Rows) -> Result<u64, End>
+        requires { (q : Tree) × (s : Sizes) × (had : Lefts) × (has : Lefts) × (xs : List Row) × Filled q s had has self.old xs before.now rows.now }
+        ensures { BlockCounted before.now rows.now result self.old self.new }
+    {
+        let number = self.number;
+        match self.first_needed(before) {
+            Err(end) => Err(end),
+            Ok(first) => {
+                if note(&mut self.lasts, before, rows).is_err() {
+                    self.ended = Some(End::NoMemory);
+                    return Err(End::NoMemory);
+                }
+                self.number = number + 1;
+                Ok(first)
+            }
+        }
+    }
+
     // The block of these rows, which were read.
     pub(crate) fn put_block(&mut self, before: Mark, rows: Rows) -> Cut
         requires { (q : Tree) × (s : Sizes) × (had : Lefts) × (has : Lefts) × (xs : List Row) × Filled q s had has self.old xs before rows }
@@ -201,26 +240,22 @@ impl Cutter {
         ensures stays { EndStays self.old self.new }
         ensures read { (side : Side) → result ≢ Cut.Ended (End.ReadFault side) }
     {
-        let first = look_back(&mut self.lasts, self.number, &before);
-        if let Some(end) = too_wide(self.number, first, self.room) {
-            self.ended = Some(end);
-            return Cut::Ended(end);
-        }
-        if note(&mut self.lasts, &before, &rows).is_err() {
-            self.ended = Some(End::NoMemory);
-            return Cut::Ended(End::NoMemory);
-        }
         let number = self.number;
-        self.number += 1;
-        Cut::Block(Block {
-            number,
-            first,
-            earlier: Earlier::none(self.alloc, before),
-            before,
-            rows,
-            places: Vec::new(self.alloc),
-            ended: false,
-        })
+        match self.count_block(&before, &rows) {
+            Ok(first) => Cut::Block(Block {
+                number,
+                first,
+                earlier: Earlier::none(self.alloc, before),
+                before,
+                rows,
+                places: Vec::new(self.alloc),
+                ended: false,
+            }),
+            Err(end) => {
+                let_rows_go(rows);
+                Cut::Ended(end)
+            }
+        }
     }
 
     // The block of the input's end, behind all rows.
@@ -233,23 +268,24 @@ impl Cutter {
         ensures stays { EndStays self.old self.new }
         ensures read { (side : Side) → result ≢ Cut.Ended (End.ReadFault side) }
     {
-        let first = look_back(&mut self.lasts, self.number, &self.mark);
-        if let Some(end) = too_wide(self.number, first, self.room) {
-            self.ended = Some(end);
-            return Cut::Ended(end);
-        }
         let number = self.number;
-        self.number = number + 1;
-        self.flush = false;
-        Cut::Block(Block {
-            number,
-            first,
-            earlier: Earlier::none(self.alloc, self.mark),
-            before: self.mark,
-            rows: Rows::new(self.alloc),
-            places: Vec::new(self.alloc),
-            ended: true,
-        })
+        let before = self.mark;
+        match self.first_needed(&before) {
+            Ok(first) => {
+                self.number = number + 1;
+                self.flush = false;
+                Cut::Block(Block {
+                    number,
+                    first,
+                    earlier: Earlier::none(self.alloc, before),
+                    before,
+                    rows: Rows::new(self.alloc),
+                    places: Vec::new(self.alloc),
+                    ended: true,
+                })
+            }
+            Err(end) => Cut::Ended(end),
+        }
     }
 
     /// The block of the input's end for queries that join no streams, whose blocks were cut without
@@ -329,11 +365,7 @@ impl Cutter {
             &mut rows,
             self.size,
         );
-        self.ended = ended_by(filled);
-        match stops(filled, rows.len()) {
-            Some(end) => self.stop_at(end),
-            None => self.put_block(before, rows.finish()),
-        }
+        self.close(filled, before, rows.finish())
     }
 
     /// The next block: the rows of the next task, which are as many as the size says, or the last

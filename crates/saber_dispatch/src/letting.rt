@@ -6,6 +6,7 @@ use crate::fed_cutter::{Begun, FedCutter};
 use crate::keeper::Keeper;
 use crate::lasts::Lasts;
 use crate::reader::Reader;
+use saber_flat::Rows;
 use saber_fragment::Earlier;
 use saber_places::Places;
 use saber_rows::{Lines, Merge};
@@ -23,6 +24,9 @@ fn let_reader_go(reader: Reader) {
         Reader::Two(merge) => let_merge_go(merge),
     }
 }
+
+// Lets the rows of a block go that isn't given.
+pub(crate) fn let_rows_go(_rows: Rows) {}
 
 // Lets the last windows of blocks go.
 fn let_lasts_go(_lasts: Option<Lasts>) {}

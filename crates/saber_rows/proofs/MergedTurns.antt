@@ -15,6 +15,7 @@ use Rattle.saber_rows.specs.declared.heads.Look.{Look}
 use Rattle.saber_rows.specs.declared.heads.Look.TheVariants.{Found, Ended, Failed}
 use Rattle.saber_rows.specs.Reader.{Reader, rest_of, gone_count, CanFollow, nothing}
 use Rattle.saber_rows.specs.Heads.{Headed, bare, look_of, led_by, side_rest, front_of, Finds, Takes, IsAhead, SidePassed, ComesAfter, Looks}
+use Rattle.saber_rows.specs.MergedRows.{TakesFront}
 use Rattle.saber_rows.specs.Merging.{Merger, merger_rest, MergeAnswer, settled_answer, merge_answer, MergeMoves, StopsBy, Passed, MergeTurn}
 use Rattle.saber_rows.proofs.ReadSteps.{given_none, true_not_false}
 use Rattle.saber_rows.proofs.Fronts.{stand}
@@ -74,6 +75,56 @@ front_gone h x a = ap (option_map look_of) a.fresh
 
 pub none_some : (o : Option Look) (l : Look) → o ≡ None → o ≡ Some l → ⊥
 none_some o l e f = cc
+
+-- the left side's row is behind an answer of the right one
+pub again_row : (n : ℕ) (l : Look) (o : Option Look) (answer : MergeAnswer) (P Q R : Type 0) → IfSome o (λ look. (l ≡ look) × P × Q) → ((e : RowEnd) → l ≡ Failed e → P → (answer ≡ Err (Right, e)) × R) → IfSome (settled_answer (Some (Found n)) o) (λ a. (answer ≡ a) × R × Q)
+again_row n l None answer P Q R h f = tt
+again_row n l (Some (Found k)) answer P Q R h f = tt
+again_row n l (Some Ended) answer P Q R h f = tt
+again_row n l (Some (Failed e)) answer P Q R h f = let r = f e h.0 h.1 in (r.0, r.1, h.2)
+
+-- the left side is at its end
+pub again_end : (l : Look) (o : Option Look) (answer : MergeAnswer) (P Q R : Type 0) → IfSome o (λ look. (l ≡ look) × P × Q) → (l ≡ Ended → P → (answer ≡ Ok None) × R) → ((e : RowEnd) → l ≡ Failed e → P → (answer ≡ Err (Right, e)) × R)
+    → IfSome (settled_answer (Some Ended) o) (λ a. (answer ≡ a) × R × Q)
+again_end l None answer P Q R h d f = tt
+again_end l (Some (Found k)) answer P Q R h d f = tt
+again_end l (Some Ended) answer P Q R h d f = let r = d h.0 h.1 in (r.0, r.1, h.2)
+again_end l (Some (Failed e)) answer P Q R h d f = let r = f e h.0 h.1 in (r.0, r.1, h.2)
+
+-- a side that fails had not failed before, or gives its failure again
+pub unsettled : (o : Option Look) (l : Look) (d : RowEnd) (P Q : Type 0) → l ≡ Failed d → IfSome o (λ look. (l ≡ look) × P × Q) → ((e : RowEnd) → o ≢ Some (Failed e)) → o ≡ None
+unsettled None l d P Q is h f = refl
+unsettled (Some look) l d P Q is h f = absurd (f d (ap (λ x. Some x) (sym h.0 ∙ is)))
+
+-- what is fixed of the sides stays
+pub taken_rules : (b : Bool) (row : Option Row) (old new : Merger) → TakesFront b row old new → (new.left.reader.rules ≡ old.left.reader.rules) × (new.right.reader.rules ≡ old.right.reader.rules)
+taken_rules true row old new h = (ap (λ (m : Merger). m.left.reader.rules) h.1, ap (λ (m : Merger). m.right.reader.rules) h.1)
+taken_rules false row old new h = (ap (λ (m : Merger). m.left.reader.rules) h.1, ap (λ (m : Merger). m.right.reader.rules) h.1)
+
+pub found_not_failed : (n : ℕ) (e : RowEnd) → ◌≡◌ {A = Look} (Found n) (Failed e) → ⊥
+found_not_failed n e h = cc
+
+pub found_not_ended : (n : ℕ) → ◌≡◌ {A = Look} (Found n) Ended → ⊥
+found_not_ended n h = cc
+
+pub ended_not_failed : (e : RowEnd) → ◌≡◌ {A = Look} Ended (Failed e) → ⊥
+ended_not_failed e h = cc
+
+pub same_failure : (d e : RowEnd) → ◌≡◌ {A = Look} (Failed d) (Failed e) → d ≡ e
+same_failure d e h = cc
+
+-- a row is no fault
+pub row_not_err : (row : Option Row) (s : Side) (e : RowEnd) → ◌≡◌ {A = MergeAnswer} (Ok row) (Err (s, e)) → ⊥
+row_not_err row s e h = cc
+
+same_err : (x y : Side × RowEnd) → ◌≡◌ {A = MergeAnswer} (Err x) (Err y) → x ≡ y
+same_err x y h = cc
+
+pub right_not_left : (d e : RowEnd) → ◌≡◌ {A = MergeAnswer} (Err (Right, d)) (Err (Left, e)) → ⊥
+right_not_left d e h = let s : Right ≡ Left = ap (λ (x : Side × RowEnd). x.0) (same_err (Right, d) (Left, e) h) in cc
+
+pub same_right : (d e : RowEnd) → ◌≡◌ {A = MergeAnswer} (Err (Right, d)) (Err (Right, e)) → d ≡ e
+same_right d e h = ap (λ (x : Side × RowEnd). x.1) (same_err (Right, d) (Right, e) h)
 
 pub found_fails : (n : ℕ) (e : RowEnd) (o : Option Look) → o ≡ Some (Found n) → o ≡ Some (Failed e) → ⊥
 found_fails n e o f g = cc
@@ -274,6 +325,12 @@ module _ (m : Mark) (old : Merger) (had hadr : Option (List ℕ)) (p : Passed m 
       (λ a b z w c d. ap (λ l. merged_read l (side_rest b old.right w)) (row_rest a old.left z x e) ∙ ap (merged_read (before x (rest_of a old.left.reader z))) (row_rest b old.right w y f)
       ∙ takes_right (rest_of a old.left.reader z) (rest_of b old.right.reader w) x y less ∙ ap (λ l. before y (merged_read l (rest_of b old.right.reader w))) (sym (row_rest a old.left z x e)))
       (settled_row n y (x, e, s) (is_ahead Right m.last m.right old.right p.right y f)))
+
+  pub lesser_taken : (n k : ℕ) (row : Option Row) (new : Merger) → Finds (Found n) old.left → Finds (Found k) old.right → TakesFront (nat_le n k) row old new → MergeTurn m (Ok row) old new had had hadr hadr
+  lesser_taken n k row new f g t = by_case (nat_le n k) refl t where
+    by_case : (b : Bool) → nat_le n k ≡ b → TakesFront b row old new → MergeTurn m (Ok row) old new had had hadr hadr
+    by_case true e h = subst (λ x. MergeTurn m (Ok row) old x had had hadr hadr) (sym h.1) (subst (λ r. MergeTurn m (Ok r) old left_gone had had hadr hadr) (sym h.0) (lesser_left n k f g e))
+    by_case false e h = subst (λ x. MergeTurn m (Ok row) old x had had hadr hadr) (sym h.1) (subst (λ r. MergeTurn m (Ok r) old right_gone had had hadr hadr) (sym h.0) (lesser_right n k f g e))
 
   -- one is at its end
   pub only_left : (n : ℕ) → Finds (Found n) old.left → Finds Ended old.right → MergeTurn m (Ok old.left.ahead) old left_gone had had hadr hadr

@@ -1,5 +1,5 @@
 -- Rows of a merge that are taken as its sides hold them.
-use Rattle.std.specs.Prelude.{◌≡◌, ℕ, zero, suc, List, [], ◌∷◌, ◌++◌, Option, Some, None, Ok}
+use Rattle.std.specs.Prelude.{◌≡◌, ℕ, zero, suc, List, [], ◌∷◌, ◌++◌, Bool, true, false, Option, Some, None, Ok}
 use Rattle.saber_plan.specs.declared.rows.Row.{Row}
 use Rattle.saber_plan.specs.declared.windows.Mark.{Mark}
 use Rattle.saber_rows.specs.Heads.{Headed, bare}
@@ -11,6 +11,11 @@ pub record PutsFront (old new : Headed) (had has : List Row) : Type 0 where
   pub front : old.ahead ≡ Some row
   pub rest : new ≡ bare old.reader
   pub put : has ≡ had ++ row ∷ []
+
+-- the row in front of a side is taken: of the left one where that is true, else of the right one
+abbrev pub TakesFront : Bool → Option Row → Merger → Merger → Type 0
+TakesFront true row old new = (row ≡ old.left.ahead) × (new ≡ record { left = bare old.left.reader; right = old.right })
+TakesFront false row old new = (row ≡ old.right.ahead) × (new ≡ record { left = old.left; right = bare old.right.reader })
 
 -- After rows with this mark: no row is given and no source is asked, and what is still to come is as before.
 pub record StillGives (m : Mark) (old new : Merger) : Type 0 where

@@ -15,7 +15,7 @@ pub struct Merge {
 }
 
 impl Merge {
-    ghost use Rattle.std.specs.Prelude.{◌≡◌, ◌≢◌, ◌≤◌, Some, Err, IfSome, [], true, false};
+    ghost use Rattle.std.specs.Prelude.{◌≡◌, ◌≢◌, ◌≤◌, nat_le, Some, Err, IfSome, [], true, false};
     ghost use Rattle.saber_plan.specs.declared.rows.Side.TheVariants as sides;
     ghost use Rattle.saber_plan.specs.declared.windows.Mark.{Mark};
     ghost use Rattle.saber_rows.specs.declared.ends.RowEnd.{RowEnd};
@@ -24,7 +24,7 @@ impl Merge {
     ghost use Rattle.saber_rows.specs.Calls.{ReadsNoMore};
     ghost use Rattle.saber_rows.specs.Heads.{head_view, front_of};
     ghost use Rattle.saber_rows.specs.Merging.{merger_of, new_merger, settled_answer, merge_answer, Passed, StartsPassed, MergeTurns, RightTurns};
-    ghost use Rattle.saber_rows.specs.MergedRows.{MergesOne, MergeStands, TakesMerged};
+    ghost use Rattle.saber_rows.specs.MergedRows.{MergesOne, MergeStands, TakesFront, TakesMerged};
     ghost use Rattle.saber_rows.specs.Merging.{FaultRose, RightFaultRose};
 
     /// The merge of a reader of the left side and one of the right. Takes no memory.
@@ -59,6 +59,19 @@ impl Merge {
         }
     }
 
+    // The row in front of one side, where both have one, with these timestamps: the lesser, the left
+    // on a tie.
+    #[inline]
+    fn take_lesser(&mut self, stamp: u64, other: u64) -> Option<Row>
+        ensures { TakesFront (nat_le stamp other) result (merger_of self.old) (merger_of self.new) }
+    {
+        if stamp <= other {
+            self.left.take()
+        } else {
+            self.right.take()
+        }
+    }
+
     // The next row, where the left side has one with this timestamp: the lesser, the left on a tie.
     fn lesser_row<S: Source>(
         &mut self,
@@ -78,13 +91,7 @@ impl Merge {
         ensures once { ReadsNoMore S.left right.old right.new (merger_of self.old).right.reader }
     {
         match self.right.look(right) {
-            Look::Found(other) => {
-                if stamp <= other {
-                    Ok(self.left.take())
-                } else {
-                    Ok(self.right.take())
-                }
-            }
+            Look::Found(other) => Ok(self.take_lesser(stamp, other)),
             Look::Ended => Ok(self.left.take()),
             Look::Failed(end) => Err((Side::Right, end)),
         }

@@ -1,39 +1,23 @@
-use Rattle.std.proofs.Common.{◌≡◌, Ok, nat_le, true, false, sym, subst, arith, refl, ap, ◌∙◌}
-use Rattle.std.proofs.lemmas.Bool.Decides.{nat_tests}
-use Rattle.saber_plan.specs.declared.rows.Side.TheVariants.{Right}
+use Rattle.std.proofs.Common.{Ok, Err, nat_le, sym, subst, refl, ap, ◌∙◌}
+use Rattle.saber_plan.specs.declared.rows.Side.TheVariants.{Left, Right}
+use Rattle.saber_rows.specs.declared.ends.RowEnd.TheVariants.{ReadFault}
+use Rattle.saber_rows.specs.declared.heads.Head.{Head}
 use Rattle.saber_rows.specs.declared.heads.Look.TheVariants.{Found, Ended, Failed}
 use Rattle.saber_rows.specs.Heads.{Headed, head_view, bare, front_of, Looks}
-use Rattle.saber_rows.specs.Merging.{MergeTurn}
-use Rattle.saber_rows.proofs.MergedTurns.{lesser_left, lesser_right, only_left, right_fails_row, on_right, none_some, front_is}
+use Rattle.saber_rows.specs.Merging.{merger_of, MergeTurn}
+use Rattle.saber_rows.proofs.MergedTurns.{lesser_taken, taken_rules, only_left, right_fails_row, on_right, none_some, front_is, again_row, unsettled, found_not_failed, ended_not_failed, same_failure, row_not_err, right_not_left, same_right}
 use Rattle.saber_rows.proofs.merges.Merge.lesser_row.Goals as goal
 
-pub returns-then-stamp-other-clause-turn : goal.returns-then-stamp-other-clause-turn
-returns-then-stamp-other-clause-turn g c m had p f =
+pub returns-in-Found-clause-turn : goal.returns-in-Found-clause-turn
+returns-in-Found-clause-turn g c m had p f =
     let left = head_view c.args.self.now.left in
     let a = head_view c.args.self.now.right in
     let b = head_view c.look.new.self in
     let h1 = g.S.Source.left c.args.right.now in
     let h2 = g.S.Source.left c.look.new.source in
     let k : Looks (Found c.in-Found.other) Right m.last m.right a b h1 h2 = subst (λ l. Looks l Right m.last m.right a b h1 h2) c.in-Found.is (c.look.ensures.looks Right m.last m.right p.right) in
-    let e : nat_le c.args.stamp c.in-Found.other ≡ true = grind (arith, nat_tests) in
-    let t = lesser_left m (record { left = left; right = b }) had h2 (record { left = p.left; right = k.passed; held = λ h e n. none_some (front_of left) (Found c.args.stamp) h (front_is (Found c.args.stamp) left f) }) c.args.stamp c.in-Found.other f k.finds e in
     on_right m _ (Found c.in-Found.other) a b left _ h1 h2 h2 had had k
-    (subst (λ h. MergeTurn m (Ok c.take.result) (record { left = left; right = b }) (record { left = h; right = b }) had had h2 h2) (sym c.take.ensures.rest)
-    (subst (λ r. MergeTurn m (Ok r) (record { left = left; right = b }) (record { left = bare left.reader; right = b }) had had h2 h2) (sym c.take.ensures.row) t))
-
-pub returns-else-stamp-other-clause-turn : goal.returns-else-stamp-other-clause-turn
-returns-else-stamp-other-clause-turn g c m had p f =
-    let left = head_view c.args.self.now.left in
-    let a = head_view c.args.self.now.right in
-    let b = head_view c.look.new.self in
-    let h1 = g.S.Source.left c.args.right.now in
-    let h2 = g.S.Source.left c.look.new.source in
-    let k : Looks (Found c.in-Found.other) Right m.last m.right a b h1 h2 = subst (λ l. Looks l Right m.last m.right a b h1 h2) c.in-Found.is (c.look.ensures.looks Right m.last m.right p.right) in
-    let e : nat_le c.args.stamp c.in-Found.other ≡ false = grind (arith, nat_tests) in
-    let t = lesser_right m (record { left = left; right = b }) had h2 (record { left = p.left; right = k.passed; held = λ h e n. none_some (front_of left) (Found c.args.stamp) h (front_is (Found c.args.stamp) left f) }) c.args.stamp c.in-Found.other f k.finds e in
-    on_right m _ (Found c.in-Found.other) a b left _ h1 h2 h2 had had k
-    (subst (λ h. MergeTurn m (Ok c.take-else-stamp-other.result) (record { left = left; right = b }) (record { left = left; right = h }) had had h2 h2) (sym c.take-else-stamp-other.ensures.rest)
-    (subst (λ r. MergeTurn m (Ok r) (record { left = left; right = b }) (record { left = left; right = bare b.reader }) had had h2 h2) (sym c.take-else-stamp-other.ensures.row) t))
+    (lesser_taken m (record { left = left; right = b }) had h2 (record { left = p.left; right = k.passed; held = λ h e n. none_some (front_of left) (Found c.args.stamp) h (front_is (Found c.args.stamp) left f) }) c.args.stamp c.in-Found.other c.take_lesser.result (merger_of c.take_lesser.new.self) f k.finds c.take_lesser.ensures)
 
 pub returns-in-Ended-clause-turn : goal.returns-in-Ended-clause-turn
 returns-in-Ended-clause-turn g c m had p f =
@@ -45,8 +29,8 @@ returns-in-Ended-clause-turn g c m had p f =
     let k : Looks Ended Right m.last m.right a b h1 h2 = subst (λ l. Looks l Right m.last m.right a b h1 h2) c.in-Ended.is (c.look.ensures.looks Right m.last m.right p.right) in
     let t = only_left m (record { left = left; right = b }) had h2 (record { left = p.left; right = k.passed; held = λ h e n. none_some (front_of left) (Found c.args.stamp) h (front_is (Found c.args.stamp) left f) }) c.args.stamp f k.finds in
     on_right m _ Ended a b left _ h1 h2 h2 had had k
-    (subst (λ h. MergeTurn m (Ok c.take-in-Ended.result) (record { left = left; right = b }) (record { left = h; right = b }) had had h2 h2) (sym c.take-in-Ended.ensures.rest)
-    (subst (λ r. MergeTurn m (Ok r) (record { left = left; right = b }) (record { left = bare left.reader; right = b }) had had h2 h2) (sym c.take-in-Ended.ensures.row) t))
+    (subst (λ h. MergeTurn m (Ok c.take.result) (record { left = left; right = b }) (record { left = h; right = b }) had had h2 h2) (sym c.take.ensures.rest)
+    (subst (λ r. MergeTurn m (Ok r) (record { left = left; right = b }) (record { left = bare left.reader; right = b }) had had h2 h2) (sym c.take.ensures.row) t))
 
 pub returns-in-Failed-clause-turn : goal.returns-in-Failed-clause-turn
 returns-in-Failed-clause-turn g c m had p f =
@@ -59,11 +43,56 @@ returns-in-Failed-clause-turn g c m had p f =
     let k : Looks (Failed e) Right m.last m.right a b h1 h2 = subst (λ l. Looks l Right m.last m.right a b h1 h2) c.in-Failed.is (c.look.ensures.looks Right m.last m.right p.right) in
     on_right m _ (Failed e) a b left _ h1 h2 h2 had had k (right_fails_row m (record { left = left; right = b }) had h2 (record { left = p.left; right = k.passed; held = λ h e n. none_some (front_of left) (Found c.args.stamp) h (front_is (Found c.args.stamp) left f) }) c.args.stamp e f k.finds)
 
-pub returns-then-stamp-other-clause-once : goal.returns-then-stamp-other-clause-once
-returns-then-stamp-other-clause-once g c = c.look.ensures.once
+-- ---- an answer that is given again
 
-pub returns-else-stamp-other-clause-once : goal.returns-else-stamp-other-clause-once
-returns-else-stamp-other-clause-once g c = c.look.ensures.once
+pub returns-in-Found-clause-again : goal.returns-in-Found-clause-again
+returns-in-Found-clause-again g c = again_row c.args.stamp c.look.result (front_of (head_view c.args.self.now.right)) _ _ _ _ c.look.ensures.again (λ e h p. absurd (found_not_failed c.in-Found.other e (sym c.in-Found.is ∙ h)))
+
+pub returns-in-Ended-clause-again : goal.returns-in-Ended-clause-again
+returns-in-Ended-clause-again g c = again_row c.args.stamp c.look.result (front_of (head_view c.args.self.now.right)) _ _ _ _ c.look.ensures.again (λ e h p. absurd (ended_not_failed e (sym c.in-Ended.is ∙ h)))
+
+pub returns-in-Failed-clause-again : goal.returns-in-Failed-clause-again
+returns-in-Failed-clause-again g c =
+    let left = c.args.self.now.left in
+    again_row c.args.stamp c.look.result (front_of (head_view c.args.self.now.right)) _ _ _ _ c.look.ensures.again
+    (λ e h p. (ap (λ x. Err (Right, x)) (same_failure c.in-Failed.end e (sym c.in-Failed.is ∙ h)), ap (λ (x : Head). record { left = left; right = x }) p))
+
+-- ---- faults
+
+pub returns-in-Found-clause-left : goal.returns-in-Found-clause-left
+returns-in-Found-clause-left g c e h = row_not_err _ Left e h
+
+pub returns-in-Ended-clause-left : goal.returns-in-Ended-clause-left
+returns-in-Ended-clause-left g c e h = row_not_err _ Left e h
+
+pub returns-in-Failed-clause-left : goal.returns-in-Failed-clause-left
+returns-in-Failed-clause-left g c e h = right_not_left c.in-Failed.end e h
+
+pub returns-in-Found-clause-cause : goal.returns-in-Found-clause-cause
+returns-in-Found-clause-cause g c f h = absurd (row_not_err _ Right ReadFault h)
+
+pub returns-in-Ended-clause-cause : goal.returns-in-Ended-clause-cause
+returns-in-Ended-clause-cause g c f h = absurd (row_not_err _ Right ReadFault h)
+
+pub returns-in-Failed-clause-cause : goal.returns-in-Failed-clause-cause
+returns-in-Failed-clause-cause g c f h =
+    let o = front_of (head_view c.args.self.now.right) in
+    let is = c.in-Failed.is ∙ ap (λ x. Failed x) (same_right c.in-Failed.end ReadFault h) in
+    c.look.ensures.cause (unsettled o c.look.result c.in-Failed.end _ _ c.in-Failed.is c.look.ensures.again f) is
+
+pub returns-in-Found-clause-good : goal.returns-in-Found-clause-good
+returns-in-Found-clause-good g c h = c.look.ensures.good (λ e. found_not_failed c.in-Found.other ReadFault (sym c.in-Found.is ∙ e))
+
+pub returns-in-Ended-clause-good : goal.returns-in-Ended-clause-good
+returns-in-Ended-clause-good g c h = c.look.ensures.good (λ e. ended_not_failed ReadFault (sym c.in-Ended.is ∙ e))
+
+pub returns-in-Failed-clause-good : goal.returns-in-Failed-clause-good
+returns-in-Failed-clause-good g c h = c.look.ensures.good (λ e. h (ap (λ x. Err (Right, x)) (same_failure c.in-Failed.end ReadFault (sym c.in-Failed.is ∙ e))))
+
+-- ---- what the look tells
+
+pub returns-in-Found-clause-once : goal.returns-in-Found-clause-once
+returns-in-Found-clause-once g c = c.look.ensures.once
 
 pub returns-in-Ended-clause-once : goal.returns-in-Ended-clause-once
 returns-in-Ended-clause-once g c = c.look.ensures.once
@@ -71,17 +100,11 @@ returns-in-Ended-clause-once g c = c.look.ensures.once
 pub returns-in-Failed-clause-once : goal.returns-in-Failed-clause-once
 returns-in-Failed-clause-once g c = c.look.ensures.once
 
-pub returns-then-stamp-other-clause-count : goal.returns-then-stamp-other-clause-count
-returns-then-stamp-other-clause-count g c = c.look.ensures.count
+pub returns-in-Found-clause-count : goal.returns-in-Found-clause-count
+returns-in-Found-clause-count g c = c.look.ensures.count
 
-pub returns-then-stamp-other-clause-reads : goal.returns-then-stamp-other-clause-reads
-returns-then-stamp-other-clause-reads g c = c.look.ensures.reads
-
-pub returns-else-stamp-other-clause-count : goal.returns-else-stamp-other-clause-count
-returns-else-stamp-other-clause-count g c = c.look.ensures.count
-
-pub returns-else-stamp-other-clause-reads : goal.returns-else-stamp-other-clause-reads
-returns-else-stamp-other-clause-reads g c = c.look.ensures.reads
+pub returns-in-Found-clause-reads : goal.returns-in-Found-clause-reads
+returns-in-Found-clause-reads g c = c.look.ensures.reads
 
 pub returns-in-Ended-clause-count : goal.returns-in-Ended-clause-count
 returns-in-Ended-clause-count g c = c.look.ensures.count
@@ -95,23 +118,17 @@ returns-in-Failed-clause-count g c = c.look.ensures.count
 pub returns-in-Failed-clause-reads : goal.returns-in-Failed-clause-reads
 returns-in-Failed-clause-reads g c = c.look.ensures.reads
 
-pub returns-then-stamp-other-clause-left_rules : goal.returns-then-stamp-other-clause-left_rules
-returns-then-stamp-other-clause-left_rules g c = ap (λ (h : Headed). h.reader.rules) c.take.ensures.rest
-
-pub returns-else-stamp-other-clause-left_rules : goal.returns-else-stamp-other-clause-left_rules
-returns-else-stamp-other-clause-left_rules g c = refl
+pub returns-in-Found-clause-left_rules : goal.returns-in-Found-clause-left_rules
+returns-in-Found-clause-left_rules g c = (taken_rules (nat_le c.args.stamp c.in-Found.other) c.take_lesser.result _ _ c.take_lesser.ensures).0
 
 pub returns-in-Ended-clause-left_rules : goal.returns-in-Ended-clause-left_rules
-returns-in-Ended-clause-left_rules g c = ap (λ (h : Headed). h.reader.rules) c.take-in-Ended.ensures.rest
+returns-in-Ended-clause-left_rules g c = ap (λ (h : Headed). h.reader.rules) c.take.ensures.rest
 
 pub returns-in-Failed-clause-left_rules : goal.returns-in-Failed-clause-left_rules
 returns-in-Failed-clause-left_rules g c = refl
 
-pub returns-then-stamp-other-clause-right_rules : goal.returns-then-stamp-other-clause-right_rules
-returns-then-stamp-other-clause-right_rules g c = c.look.ensures.rules
-
-pub returns-else-stamp-other-clause-right_rules : goal.returns-else-stamp-other-clause-right_rules
-returns-else-stamp-other-clause-right_rules g c = ap (λ (h : Headed). h.reader.rules) c.take-else-stamp-other.ensures.rest ∙ c.look.ensures.rules
+pub returns-in-Found-clause-right_rules : goal.returns-in-Found-clause-right_rules
+returns-in-Found-clause-right_rules g c = (taken_rules (nat_le c.args.stamp c.in-Found.other) c.take_lesser.result _ _ c.take_lesser.ensures).1 ∙ c.look.ensures.rules
 
 pub returns-in-Ended-clause-right_rules : goal.returns-in-Ended-clause-right_rules
 returns-in-Ended-clause-right_rules g c = c.look.ensures.rules
