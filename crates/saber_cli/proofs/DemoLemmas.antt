@@ -1,5 +1,5 @@
 -- A run over generated rows, from that of the engine.
-use Rattle.std.proofs.Common.{Bool, ⊎_elim, ◌++◌, ◌≡◌, ◌≤◌, ◌*◌, ◌^◌, min, inl, inr, ℕ, List, [], ◌∷◌, length, Option, Some, None, false, refl, sym, ◌∙◌, ap, subst, arith}
+use Rattle.std.proofs.Common.{Bool, ◌⊎◌, ⊎_elim, ◌++◌, ◌≡◌, ◌≤◌, ◌*◌, ◌^◌, min, inl, inr, ℕ, List, [], ◌∷◌, length, Option, Some, None, false, refl, sym, ◌∙◌, ap, subst, arith}
 use Rattle.std.proofs.Math.Path.{transport}
 use Rattle.std.proofs.lemmas.List.{take_all}
 use Rattle.saber_io.specs.Outside.{FilesView}
@@ -124,6 +124,65 @@ whole_answer d ring tasks e out some is h =
 pub written_is : (before after out : List ℕ) → before ≡ [] → Some after ≡ appended_text (Some before) out → after ≡ out
 written_is before after out none is = let same : after ≡ before ++ out = cc in same ∙ ap (λ l. l ++ out) none
 
+-- ---- what is due
+
+tell_allows : (text : List ℕ) (count : ℕ) (o : Outcome) → IsOfPut o → Allows (tells text count) o
+tell_allows text count Done k = inl refl
+tell_allows text count Usage k = absurd k
+tell_allows text count (SecondQueryFault place why) k = absurd k
+tell_allows text count (Unchainable which) k = absurd k
+tell_allows text count (ChainLineRefused place why) k = absurd k
+tell_allows text count (FileCount s g) k = absurd k
+tell_allows text count (QueryFault b c) k = absurd k
+tell_allows text count (LineRefused s n c) k = absurd k
+tell_allows text count (OpenFault f) k = absurd k
+tell_allows text count (ReadFault f) k = absurd k
+tell_allows text count (TooWide t n r) k = absurd k
+tell_allows text count WriteFault k = inr (inl refl)
+tell_allows text count NoMemory k = inr (inr refl)
+
+put_kinds : (o : Outcome) → (o ≡ Done) ⊎ ((o ≡ WriteFault) ⊎ (o ≡ NoMemory)) → IsOfPut o
+put_kinds o (inl e) = subst IsOfPut (sym e) tt
+put_kinds o (inr (inl e)) = subst IsOfPut (sym e) tt
+put_kinds o (inr (inr e)) = subst IsOfPut (sym e) tt
+
+demo_allowed : (files : Contents) (d : AskedDemo) (o : Outcome) (due : Due) → IsOfPut o → IsDueFor files (demo d) due → Allows due o
+demo_allowed files d o usage k h = absurd h
+demo_allowed files d o missing k h = absurd h
+demo_allowed files d o (faulty b x) k h = absurd h
+demo_allowed files d o (unlike s g) k h = absurd h
+demo_allowed files d o (shows out) k h = absurd h
+demo_allowed files d o (tells text count) k h = tell_allows text count o k
+demo_allowed files d o (runs q n ring flush read) k h = absurd h
+
+demo_puts : (files : Contents) (d : AskedDemo) (o : Outcome) (tasks : ℕ) (out : List ℕ) (due : Due) → PutsText (summary_of_run d.seed d.rows) o out → HasTasks (tasks_of_run d) tasks o → IsDueFor files (demo d) due → PutsOut due o tasks out
+demo_puts files d o tasks out usage p t h = absurd h
+demo_puts files d o tasks out missing p t h = absurd h
+demo_puts files d o tasks out (faulty b x) p t h = absurd h
+demo_puts files d o tasks out (unlike s g) p t h = absurd h
+demo_puts files d o tasks out (shows text) p t h = absurd h
+demo_puts files d o tasks out (tells text count) p t h = (subst (λ c. HasTasks c tasks o) (sym h.1) t, subst (λ x. PutsText x o out) (sym h.0) p)
+demo_puts files d o tasks out (runs q n ring flush read) p t h = absurd h
+
+-- whatever the files, the summary is due
+gives_told : (files : Contents) (d : AskedDemo) (o : Outcome) (tasks : ℕ) (out : List ℕ) → IsOfPut o → PutsText (summary_of_run d.seed d.rows) o out → HasTasks (tasks_of_run d) tasks o → Gives files (demo d) o tasks out
+gives_told files d o tasks out k p t = record {
+  something = some_due files (demo d) tt;
+  allows = λ due h. demo_allowed files d o due k h;
+  puts = λ due h. demo_puts files d o tasks out due p t h;
+}
+
+-- and so it is where the call gives what it gives over no files
+pub told_over : (files : Contents) (d : AskedDemo) (o : Outcome) (tasks : ℕ) (out : List ℕ) → Gives [] (demo d) o tasks out → Gives files (demo d) o tasks out
+told_over files d o tasks out g =
+    let told = tells (summary_of_run d.seed d.rows) (tasks_of_run d) in
+    let puts = g.puts told (refl, refl) in
+    gives_told files d o tasks out (put_kinds o (g.allows told (refl, refl))) puts.1 puts.0
+
+-- how it ends
+pub told_kinds : (d : AskedDemo) (o : Outcome) (tasks : ℕ) (out : List ℕ) → Gives [] (demo d) o tasks out → IsOfPut o
+told_kinds d o tasks out g = put_kinds o (g.allows (tells (summary_of_run d.seed d.rows) (tasks_of_run d)) (refl, refl))
+
 -- ---- what goes out
 
 -- the summary of an answer, whose writing came to this
@@ -132,9 +191,8 @@ pub answer_told : (d : AskedDemo) (o : Outcome) (answer : List ℕ) (tasks told 
 answer_told d o answer tasks told old new text out a is same none w p k = record {
   out = out;
   written = w;
-  puts = subst (λ t. PutsText t o out) (is ∙ ap (summary d.rows) a.text_is) p;
-  tasks_are = record { all = λ e. same (⊎_elim not_after_done not_after_failed e) ∙ a.tasks_are; none = none };
-  kinds = k;
+  gives = gives_told [] d o told out k (subst (λ t. PutsText t o out) (is ∙ ap (summary d.rows) a.text_is) p)
+      (record { all = λ e. same (⊎_elim not_after_done not_after_failed e) ∙ a.tasks_are; none = none });
 }
   where
     not_after_done : o ≡ Done → o ≡ NoMemory → ⊥
@@ -148,9 +206,7 @@ pub memory_told : (d : AskedDemo) (old : Option (List ℕ)) → TellsRun d NoMem
 memory_told d old = record {
   out = [];
   written = appended-none old;
-  puts = no_text (λ e. cc) refl;
-  tasks_are = record { all = λ e. absurd (⊎_elim not_done not_failed e); none = λ e. refl };
-  kinds = tt;
+  gives = gives_told [] d NoMemory 0 [] tt (no_text (λ e. cc) refl) (record { all = λ e. absurd (⊎_elim not_done not_failed e); none = λ e. refl });
 }
   where
     not_done : NoMemory ≡ Done → ⊥
@@ -184,46 +240,3 @@ tell_matches NoMemory k = refl
 -- none is asked for
 pub tell_leaves : (c : Asked) (d : AskedDemo) (o : Outcome) (old : Option FilesView) → c ≡ demo d → IsOfPut o → LeavesTold c o old old
 tell_leaves c d o old is k = subst (λ (a : Asked). LeavesTold a o old old) (sym is) (none_left [] (λ t. ⊥) o old (tell_matches o k))
-
--- ---- what is due
-
-tell_allows : (text : List ℕ) (count : ℕ) (o : Outcome) → IsOfPut o → Allows (tells text count) o
-tell_allows text count Done k = inl refl
-tell_allows text count Usage k = absurd k
-tell_allows text count (SecondQueryFault place why) k = absurd k
-tell_allows text count (Unchainable which) k = absurd k
-tell_allows text count (ChainLineRefused place why) k = absurd k
-tell_allows text count (FileCount s g) k = absurd k
-tell_allows text count (QueryFault b c) k = absurd k
-tell_allows text count (LineRefused s n c) k = absurd k
-tell_allows text count (OpenFault f) k = absurd k
-tell_allows text count (ReadFault f) k = absurd k
-tell_allows text count (TooWide t n r) k = absurd k
-tell_allows text count WriteFault k = inr (inl refl)
-tell_allows text count NoMemory k = inr (inr refl)
-
-demo_allowed : (files : Contents) (d : AskedDemo) (o : Outcome) (due : Due) → IsOfPut o → IsDueFor files (demo d) due → Allows due o
-demo_allowed files d o usage k h = absurd h
-demo_allowed files d o missing k h = absurd h
-demo_allowed files d o (faulty b x) k h = absurd h
-demo_allowed files d o (unlike s g) k h = absurd h
-demo_allowed files d o (shows out) k h = absurd h
-demo_allowed files d o (tells text count) k h = tell_allows text count o k
-demo_allowed files d o (runs q n ring flush read) k h = absurd h
-
-demo_puts : (files : Contents) (d : AskedDemo) (o : Outcome) (tasks : ℕ) (out : List ℕ) (due : Due) → PutsText (summary_of_run d.seed d.rows) o out → HasTasks (tasks_of_run d) tasks o → IsDueFor files (demo d) due → PutsOut due o tasks out
-demo_puts files d o tasks out usage p t h = absurd h
-demo_puts files d o tasks out missing p t h = absurd h
-demo_puts files d o tasks out (faulty b x) p t h = absurd h
-demo_puts files d o tasks out (unlike s g) p t h = absurd h
-demo_puts files d o tasks out (shows text) p t h = absurd h
-demo_puts files d o tasks out (tells text count) p t h = (subst (λ c. HasTasks c tasks o) (sym h.1) t, subst (λ x. PutsText x o out) (sym h.0) p)
-demo_puts files d o tasks out (runs q n ring flush read) p t h = absurd h
-
--- whatever the files, the summary is due
-pub gives_told : (files : Contents) (d : AskedDemo) (o : Outcome) (tasks : ℕ) (out : List ℕ) → IsOfPut o → PutsText (summary_of_run d.seed d.rows) o out → HasTasks (tasks_of_run d) tasks o → Gives files (demo d) o tasks out
-gives_told files d o tasks out k p t = record {
-  something = some_due files (demo d) tt;
-  allows = λ due h. demo_allowed files d o due k h;
-  puts = λ due h. demo_puts files d o tasks out due p t h;
-}

@@ -1,5 +1,5 @@
 -- The plans of a chain's queries, and why there are none.
-use Rattle.std.proofs.Common.{◌≡◌, ℕ, List, length, Option, sym, ◌∙◌, subst}
+use Rattle.std.proofs.Common.{◌≡◌, ℕ, List, length, Option, true, false, inl, inr, sym, ◌∙◌, subst}
 use Rattle.saber_io.specs.Outside.{FilesView}
 use Rattle.saber_plan.specs.Trees.{Tree}
 use Rattle.saber_words.specs.Chain.{AskedChain}
@@ -13,8 +13,8 @@ use Rattle.saber_cli.specs.Planned.{IsTextFault}
 use Rattle.saber_cli.specs.Puts.{IsOfPut}
 use Rattle.saber_cli.specs.Uses.{Uses, unasked, unopened, used, IsOpened, IsOfQuery}
 use Rattle.saber_cli.specs.Due.{Contents, first_run, row_names, IsPlanned}
-use Rattle.saber_cli.specs.Chained.{HasPlans, HasReason}
-use Rattle.saber_cli.specs.Chaining.{IsMisfit, LacksPlan}
+use Rattle.saber_cli.specs.Chained.{HasPlans, HasReason, MayBeFirst}
+use Rattle.saber_cli.specs.Chaining.{IsMisfit, LacksPlan, MayNotBeFirst}
 use Rattle.saber_cli.proofs.DueLemmas.{begun_plan, begun_fault}
 
 -- ---- one query
@@ -147,13 +147,17 @@ first_reason files a (TooWide task need cells) h = absurd h
 first_reason files a WriteFault h = absurd h
 first_reason files a NoMemory h = tt
 
+not_first : (p : Tree) → MayNotBeFirst p → ¬ (MayBeFirst p)
+not_first p (inl e) m = let clash : true ≡ false = sym m.windowed ∙ e in cc
+not_first p (inr n) m = n m.in_order
+
 pub misfit_reason : (files : Contents) (a : AskedChain) (p q : Tree) (n : ℕ) (o : Outcome) → HasPlans files a p q → n ≡ length (row_names (first_run a)) → IsMisfit p q n o → HasReason files a o
 misfit_reason files a p q n Done u e h = absurd h
 misfit_reason files a p q n Usage u e h = absurd h
 misfit_reason files a p q n (FileCount streams given) u e h = (p, q, u, h.0, h.1, sym e ∙ h.2, h.3)
 misfit_reason files a p q n (QueryFault place why) u e h = absurd h
 misfit_reason files a p q n (SecondQueryFault place why) u e h = absurd h
-misfit_reason files a p q n (Unchainable Query) u e h = (p, q, u, h)
+misfit_reason files a p q n (Unchainable Query) u e h = (p, q, u, not_first p h)
 misfit_reason files a p q n (Unchainable Left) u e h = absurd h
 misfit_reason files a p q n (Unchainable Right) u e h = absurd h
 misfit_reason files a p q n (Unchainable SecondQuery) u e h = (p, q, u, h.0, h.1)

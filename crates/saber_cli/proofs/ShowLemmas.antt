@@ -13,7 +13,6 @@ use Rattle.saber_query.specs.Reading.{token_of}
 use Rattle.saber_query.specs.Means.{MeansTree}
 use Rattle.saber_query.specs.Spelling.{spelled_text}
 use Rattle.saber_query.proofs.LongestLemmas.{same_placed}
-use Rattle.saber_check.specs.Plans.{plan_tree}
 use Rattle.saber_check.specs.Outcome.{IsFaultOf}
 use Rattle.saber_check.specs.Texts.{HasPlan, HasFault, fails_checks, IsFaultIn}
 use Rattle.saber_words.specs.Commands.{check, AskedCheck}
@@ -43,14 +42,10 @@ check_fault text p (fault.At byte cause) m h = fails_checks (record { query = p;
 
 -- ---- a text that shows
 
--- its plan
-plan_of_shows : (text out : List ℕ) (s : Shows text out) → HasPlan text (plan_tree (query_of s.query.select))
-plan_of_shows text out s = record { query = s.query; parsed = s.parsed; means = s.means; faultless = s.faultless; same = refl }
-
 -- a text whose front shows is its front
 front_shows : (text out : List ℕ) → Shows (take 65537 text) out → Shows text out
 front_shows text out s =
-    let p : HasPlan text (plan_tree (query_of s.query.select)) = front_has_plan text (plan_tree (query_of s.query.select)) (plan_of_shows (take 65537 text) out s) in
+    let p : HasPlan text s.0 = front_has_plan text s.0 s.1 in
     let short : length text ≤ 65536 = p.means.short in
     let same : take 65537 text ≡ text = take_all 65537 text (omega (arith, short)) in
     subst (λ t. Shows t out) same s
@@ -61,14 +56,14 @@ begun_shows files name text out b s = (b.whole, b.there, front_shows b.whole out
 
 -- a text that shows has no fault
 shows_or_fault : (text out : List ℕ) (byte : ℕ) (cause : Cause) → Shows text out → HasFault text byte cause → ⊥
-shows_or_fault text out byte cause s f = fault_or_plan text byte cause (plan_tree (query_of s.query.select)) f (plan_of_shows text out s)
+shows_or_fault text out byte cause s f = fault_or_plan text byte cause s.0 f s.1
 
 same_words : (text : List ℕ) (p r : Parsed) → MeansTree text p → MeansTree text r → words (query_of p.select) ≡ words (query_of r.select)
 same_words text p r m n = m.words ∙ ap (map token_of) (same_placed text m.placed n.placed m.lexed n.lexed) ∙ sym n.words
 
 -- a text shows in one way
 one_text : (text out other : List ℕ) → Shows text out → Shows text other → out ≡ other
-one_text text out other s t = s.out_is ∙ ap (λ (ws : List Token). spelled_text ws ++ 10 ∷ []) (same_words text s.query t.query s.means t.means) ∙ sym t.out_is
+one_text text out other s t = s.2 ∙ ap (λ (ws : List Token). spelled_text ws ++ 10 ∷ []) (same_words text s.1.query t.1.query s.1.means t.1.means) ∙ sym t.2
 
 -- ---- what is due for a check
 

@@ -58,7 +58,7 @@ of_run files r (Some text) e = elim (plan_or_fault text) [
 of_check : (files : Contents) (c : AskedCheck) (o : Option (List ℕ)) → content_in files c.query ≡ o → SomeDue files (check c)
 of_check files c None e = (missing, e)
 of_check files c (Some text) e = elim (plan_or_fault text) [
-  | inl h ↦ (shows (spelled_text (words (query_of h.1.query.select)) ++ 10 ∷ []), (text, e, record { query = h.1.query; parsed = h.1.parsed; means = h.1.means; faultless = h.1.faultless; out_is = refl }))
+  | inl h ↦ (shows (spelled_text (words (query_of h.1.query.select)) ++ 10 ∷ []), (text, e, (h.0, h.1, refl)))
   | inr h ↦ (faulty h.0 h.1, (text, e, h.2))
 ]
 

@@ -24,7 +24,7 @@ use Rattle.saber_cli.specs.Due.{Contents, HasRun, contents_of, row_names}
 use Rattle.saber_cli.specs.Endings.{end_of, ended_as}
 use Rattle.saber_cli.specs.RowFiles.{OpensAll}
 use Rattle.saber_cli.specs.Unread.{unread}
-use Rattle.saber_cli.specs.Writes.{WritesOver, WritesRows, WritesRun, WritesTold, run_writes, text_writes}
+use Rattle.saber_cli.specs.Writes.{WritesOver, WritesIn, WritesRows, WritesTold, run_writes, text_writes}
 use Rattle.saber_cli.proofs.AnsweredLemmas.{for_any}
 use Rattle.saber_cli.proofs.DueLemmas.{run_plan}
 use Rattle.saber_cli.proofs.RowLemmas.{all_told}
@@ -70,7 +70,7 @@ rows_unwritten q s names told o had u =
     (λ t. for_any (λ (all : List (List ℕ)). WritesOver q s all o 0 had had) (contents_of t.contents names) (λ all. writes_none q s.task (run_input q s.flush (input_of q (limits_of s) all)) had o u))
 
 -- and of a run that came to no plan, or to no row files
-pub run_unwritten : (r : AskedRun) (told : Option FilesView) (o : Outcome) (had : ℕ) → o ≢ WriteFault → WritesRun r told o 0 had had
+pub run_unwritten : (r : AskedRun) (told : Option FilesView) (o : Outcome) (had : ℕ) → o ≢ WriteFault → IfSome told (λ t. WritesIn t.contents r o 0 had had)
 run_unwritten r told o had u =
     for_any (λ (t : FilesView). (q : Tree) → HasRun t.contents r q → IfSome (contents_of t.contents (row_names r)) (λ all. had ≡ raised_by had (run_writes r q all o 0))) told
     (λ t q h.

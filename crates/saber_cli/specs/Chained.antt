@@ -1,5 +1,5 @@
 -- What a chain comes to: two queries, of which the second one's rows are the lines of the first.
-use Rattle.std.specs.Prelude.{Bool, ◌≡◌, ◌≢◌, ◌⊎◌, ℕ, List, [], length, Option, Some, IfSome, true, false}
+use Rattle.std.specs.Prelude.{Bool, ◌≡◌, ◌≢◌, ℕ, List, [], length, Option, Some, IfSome, true, false}
 use Rattle.saber_io.specs.Outside.{FilesView}
 use Rattle.saber_plan.specs.Outputs.{raised_by, appended_text}
 use Rattle.saber_plan.specs.declared.rows.Side.{Side}
@@ -44,9 +44,6 @@ pub record MayBeFirst (p : Tree) : Type 0 where
   pub windowed : has_windows (frame p) ≡ true
   pub in_order : p.partition ≡ []
 
-abbrev pub MayNotBeFirst : Tree → Type 0
-MayNotBeFirst p = (has_windows (frame p) ≡ false) ⊎ (p.partition ≢ [])
-
 -- And they are one stream, so the second one is no join.
 pub record IsChainable (p q : Tree) : Type 0 where
   pub begins : MayBeFirst p
@@ -68,7 +65,7 @@ pub record AsksChainRows (files : Contents) (a : AskedChain) : Type 0 where
 abbrev pub HasReason : Contents → AskedChain → Outcome → Type 0
 HasReason files a (QueryFault byte cause) = IsFaulty files a.first byte cause
 HasReason files a (SecondQueryFault byte cause) = (p : Tree) × IsPlanned files a.first p × IsFaulty files a.second byte cause
-HasReason files a (Unchainable Query) = (p : Tree) × (q : Tree) × HasPlans files a p q × MayNotBeFirst p
+HasReason files a (Unchainable Query) = (p : Tree) × (q : Tree) × HasPlans files a p q × ¬ (MayBeFirst p)
 HasReason files a (Unchainable SecondQuery) = (p : Tree) × (q : Tree) × HasPlans files a p q × MayBeFirst p × (q.shape ≡ Join)
 HasReason files a (FileCount streams given) =
     (p : Tree) × (q : Tree) × HasPlans files a p q × IsChainable p q × (length p.streams ≡ streams) × (length (row_names (first_run a)) ≡ given) × (streams ≢ given)

@@ -1,11 +1,13 @@
 -- What the parts of a chain come to: a query's plan, both plans, and the run over the row files.
-use Rattle.std.specs.Prelude.{Bool, ◌≡◌, ◌≢◌, ◌≤◌, ℕ, suc, List, [], ◌∷◌, length, take, Option, Some, IfSome}
+use Rattle.std.specs.Prelude.{Bool, false, ◌≡◌, ◌≢◌, ◌⊎◌, ◌≤◌, ℕ, suc, List, [], ◌∷◌, length, take, Option, Some, IfSome}
 use Rattle.saber_io.specs.Outside.{FilesView, Closed}
 use Rattle.saber_plan.specs.declared.plans.Shape.TheVariants.{Join}
 use Rattle.saber_plan.specs.declared.rows.Side.{Side}
 use Rattle.saber_plan.specs.declared.sizes.Sizes.{Sizes}
 use Rattle.saber_plan.specs.Sizes.{limits_of}
 use Rattle.saber_plan.specs.Trees.{Tree}
+use Rattle.saber_plan.specs.Windows.{has_windows}
+use Rattle.saber_plan.specs.Answers.{frame}
 use Rattle.saber_plan.specs.declared.ends.RunEnd.{RunEnd}
 use Rattle.saber_plan.specs.declared.ends.RunEnd.TheVariants as ends
 use Rattle.saber_chain.specs.Sinks.{SinkSeen}
@@ -19,7 +21,7 @@ use Rattle.saber_cli.specs.Leaves.{AreOf, Matches}
 use Rattle.saber_cli.specs.RowFiles.{after_use}
 use Rattle.saber_cli.specs.Uses.{IsOfQueryFile}
 use Rattle.saber_cli.specs.Taken.{TakesRows}
-use Rattle.saber_cli.specs.Chained.{MayBeFirst, MayNotBeFirst, IsChainable, RunsChain}
+use Rattle.saber_cli.specs.Chained.{MayBeFirst, IsChainable, RunsChain}
 
 -- ---- a query
 
@@ -37,6 +39,10 @@ as_second (QueryFault byte cause) = SecondQueryFault byte cause
 as_second (OpenFault file) = OpenFault SecondQuery
 as_second (ReadFault file) = ReadFault SecondQuery
 as_second o = o
+
+-- the first one may not be one
+abbrev pub MayNotBeFirst : Tree → Type 0
+MayNotBeFirst p = (has_windows (frame p) ≡ false) ⊎ (p.partition ≢ [])
 
 -- why two plans make no chain over so many row files
 abbrev pub IsMisfit : Tree → Tree → ℕ → Outcome → Type 0

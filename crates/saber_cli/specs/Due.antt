@@ -5,12 +5,9 @@ use Rattle.saber_plan.specs.Trees.{Tree}
 use Rattle.saber_plan.specs.Sizes.{limits_of}
 use Rattle.saber_io.specs.Outside.{content_in}
 use Rattle.saber_query.specs.declared.fault.Cause.{Cause}
-use Rattle.saber_query.specs.Parsed.{Parsed, IsParsed}
 use Rattle.saber_query.specs.Trees.{query_of}
 use Rattle.saber_query.specs.Words.{words}
-use Rattle.saber_query.specs.Means.{MeansTree}
 use Rattle.saber_query.specs.Spelling.{spelled_text}
-use Rattle.saber_check.specs.Outcome.{IsFaultless}
 use Rattle.saber_check.specs.Texts.{HasPlan, HasFault}
 use Rattle.saber_words.specs.Chain.{AskedChain}
 use Rattle.saber_words.specs.Commands.{Asked, run, check, demo, chain, AskedRun, command_of}
@@ -75,24 +72,16 @@ IsLike asked q = length q.streams ≡ length (row_names asked)
 abbrev pub IsFaulty : Contents → List ℕ → ℕ → Cause → Type 0
 IsFaulty files query byte cause = (text : List ℕ) × (content_in files query ≡ Some text) × HasFault text byte cause
 
--- the text means a query that passes its checks, and this is the query's own text, with a line feed
-pub record Shows (text out : List ℕ) : Type 0 where
-  pub query : Parsed
-  pub parsed : IsParsed query.select query.starts
-  pub means : MeansTree text query
-  pub faultless : IsFaultless (query_of query.select)
-  pub out_is : out ≡ spelled_text (words (query_of query.select)) ++ 10 ∷ []
-
--- the run's query names so many streams, and the command another number of row files
-abbrev pub IsUnlike : Contents → AskedRun → ℕ → ℕ → Type 0
-IsUnlike files r streams given = (q : Tree) × HasRun files r q × (length q.streams ≡ streams) × (length (row_names r) ≡ given) × (streams ≢ given)
+-- the text means a query that has a plan, and this is the query's own text, with a line feed
+abbrev pub Shows : List ℕ → List ℕ → Type 0
+Shows text out = (q : Tree) × (plan : HasPlan text q) × (out ≡ spelled_text (words (query_of plan.query.select)) ++ 10 ∷ [])
 
 -- What is due for a command that is no chain; of a chain see Chained.
 abbrev pub IsDueFor : Contents → Asked → Due → Type 0
 IsDueFor files c usage = ⊥
 IsDueFor files (run r) missing = (content_in files r.query ≡ None) ⊎ ((q : Tree) × HasRun files r q × IsLike r q × (contents_of files (row_names r) ≡ None))
 IsDueFor files (run r) (faulty byte cause) = IsFaulty files r.query byte cause
-IsDueFor files (run r) (unlike streams given) = IsUnlike files r streams given
+IsDueFor files (run r) (unlike streams given) = (q : Tree) × HasRun files r q × (length q.streams ≡ streams) × (length (row_names r) ≡ given) × (streams ≢ given)
 IsDueFor files (run r) (runs q n ring flush read) = (all : List (List ℕ)) × HasRun files r q × IsLike r q ×
     (contents_of files (row_names r) ≡ Some all) × (n ≡ r.sizes.task) × (ring ≡ r.sizes.ring) × (flush ≡ r.sizes.flush) × (read ≡ input_of q (limits_of r.sizes) all)
 IsDueFor files (check c) missing = content_in files c.query ≡ None

@@ -38,7 +38,7 @@ pub record TakesBehind (queries : ℕ) (q : Tree) (s : Sizes) (tasks : ℕ) (nam
   pub as_many : length before ≡ queries
   pub given_back : List Closed
   pub closed : new.closed ≡ old.closed ++ before ++ given_back
-  pub takes : TakesOf q s.task (limits_of s) tasks old.contents names given_back
+  pub takes : ReadsWhole q s.task (limits_of s) tasks (map (content_in old.contents) names) (map (λ source. source.0) given_back)
 
 -- so it is of the row files of a run
 abbrev pub TakesWhole : AskedRun → ℕ → FilesView → FilesView → Type 0

@@ -31,18 +31,14 @@ abbrev pub WritesIn : Contents → AskedRun → Outcome → ℕ → ℕ → ℕ 
 WritesIn files r o tasks had has =
     (q : Tree) → HasRun files r q → IfSome (contents_of files (row_names r)) (λ all. has ≡ raised_by had (run_writes r q all o tasks))
 
--- where files tell
-abbrev pub WritesRun : AskedRun → Option FilesView → Outcome → ℕ → ℕ → ℕ → Type 0
-WritesRun r told o tasks had has = IfSome told (λ t. WritesIn t.contents r o tasks had has)
-
 -- a text that goes out, whole or up to where the sink failed, does in one write
 abbrev pub text_writes : Outcome → ℕ
 text_writes Done = 1
 text_writes WriteFault = 1
 text_writes _ = 0
 
--- of each command but a chain: of that see Chained
+-- of each command but a chain, of a run where files tell: of a chain see Chained
 abbrev pub WritesTold : Asked → Option FilesView → Outcome → ℕ → ℕ → ℕ → Type 0
-WritesTold (run r) told o tasks had has = WritesRun r told o tasks had has
+WritesTold (run r) told o tasks had has = IfSome told (λ t. WritesIn t.contents r o tasks had has)
 WritesTold (chain a) told o tasks had has = Unit {0}
 WritesTold c told o tasks had has = has ≡ raised_by had (text_writes o)

@@ -10,10 +10,10 @@ ghost use Rattle.saber_notes.specs.declared.outcome.InputFile.{InputFile};
 ghost use Rattle.saber_cli.specs.Outcomes.{IsClean, IsFileFault, IsOfPlan, IsOfPlans};
 ghost use Rattle.saber_cli.specs.Due.{IsLike, first_run, row_names, IsPlanned};
 ghost use Rattle.saber_cli.specs.Uses.{Uses, KeepsFaults, outcome_of};
-ghost use Rattle.saber_cli.specs.Chained.{HasPlansTold, HasReason, IsChainable, MayBeFirst, MayNotBeFirst};
+ghost use Rattle.saber_cli.specs.Chained.{HasPlansTold, HasReason, IsChainable, MayBeFirst};
 ghost use Rattle.saber_words.specs.Commands.{chain};
 ghost use Rattle.saber_cli.specs.Leaving.{LeavesTold};
-ghost use Rattle.saber_cli.specs.Chaining.{BothRead, IsMisfit, LacksPlan, as_second};
+ghost use Rattle.saber_cli.specs.Chaining.{BothRead, IsMisfit, LacksPlan, MayNotBeFirst, as_second};
 
 use crate::plans::planned;
 use crate::queries::query_text;

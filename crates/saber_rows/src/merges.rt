@@ -61,7 +61,7 @@ impl Merge {
 
     // The row in front of one side, where both have one, with these timestamps: the lesser, the left
     // on a tie.
-    #[inline]
+    #[inline(always)]
     fn take_lesser(&mut self, stamp: u64, other: u64) -> Option<Row>
         ensures { TakesFront (nat_le stamp other) result (merger_of self.old) (merger_of self.new) }
     {

@@ -17,3 +17,6 @@ returns-in-Ok-clause-told g c =
 
 pub returns-then-not-whole-clause-told : goal.returns-then-not-whole-clause-told
 returns-then-not-whole-clause-told g c = rw (c.lacking.ensures) (memory_told (asked_demo c.args.command.now) (g.K.Sink.written c.args.sink))
+
+pub returns-clause-told : goal.returns-clause-told
+returns-clause-told g c = rw (c.lacking-in-Err.ensures) (memory_told (asked_demo c.args.command.now) (g.K.Sink.written c.args.sink))

@@ -1,4 +1,4 @@
-use Rattle.std.proofs.Common.{◌≡◌, ℕ, List, [], ◌∷◌, ◌++◌, Result, Ok, Err, IfOk, IfErr, OnOk}
+use Rattle.std.proofs.Common.{◌≡◌, refl, ℕ, List, [], ◌∷◌, ◌++◌, Result, Ok, Err, IfOk, IfErr, OnOk}
 use Rattle.saber_query.specs.declared.fault.QueryFault.{QueryFault}
 use Rattle.saber_query.specs.Trees.{query_of}
 use Rattle.saber_query.specs.Words.{words}
@@ -6,6 +6,7 @@ use Rattle.saber_query.specs.Parsed.{Parsed, IsParsed}
 use Rattle.saber_query.specs.Spelling.{spelled_text}
 use Rattle.saber_query.specs.Means.{MeansTree}
 use Rattle.saber_check.specs.Outcome.{IsFaultless, IsFaultOf}
+use Rattle.saber_check.specs.Plans.{plan_tree}
 use Rattle.saber_check.specs.Texts.{IsFaultIn}
 use Rattle.saber_cli.specs.Due.{Shows}
 use Rattle.saber_cli.proofs.ShowLemmas.{check_fault}
@@ -13,7 +14,7 @@ use Rattle.saber_cli.proofs.shows.line_of.Goals as goal
 
 -- the line of a query that passes its checks shows the text that means it
 shows_line : {T : Type 0} (items : T → List ℕ) (text : List ℕ) (p : Parsed) (r : Result T QueryFault) → IsParsed p.select p.starts → MeansTree text p → OnOk r (IsFaultless (query_of p.select)) → IfOk r (λ out. items out ≡ spelled_text (words (query_of p.select)) ++ 10 ∷ []) → IfOk r (λ out. Shows text (items out))
-shows_line items text p (Ok out) i m n e = record { query = p; parsed = i; means = m; faultless = n; out_is = e }
+shows_line items text p (Ok out) i m n e = (plan_tree (query_of p.select), record { query = p; parsed = i; means = m; faultless = n; same = refl }, e)
 shows_line items text p (Err f) i m n e = tt
 
 -- a fault of a query is one of the text that means it

@@ -17,7 +17,7 @@ use Rattle.saber_cli.proofs.ChainRunLemmas.{unread_alone, unread_chained}
 use Rattle.saber_cli.proofs.AnsweredLemmas.{for_any}
 use Rattle.saber_cli.proofs.RunLemmas.{some_map}
 use Rattle.saber_cli.proofs.WordLemmas.{Answers, answers_of, unread_answers, unread_leave, unread_not_read}
-use Rattle.saber_cli.proofs.DemoLemmas.{gives_told, tell_leaves, unread_told}
+use Rattle.saber_cli.proofs.DemoLemmas.{tell_leaves, told_kinds, told_over, unread_told}
 use Rattle.saber_cli.specs.Writes.{WritesTold}
 use Rattle.saber_cli.proofs.WriteLemmas.{unread_unwritten}
 use Rattle.saber_cli.proofs.words.run_words.Goals as goal
@@ -86,7 +86,7 @@ returns-in-Demo-clause-written g c =
     let tasks = c.demo_command.result.tasks in
     let t = c.demo_command.ensures.told in
     let is : command_of ws ≡ Some (demo d) = c.in-Ok.ensures.taken ∙ ap (λ (k : Command). Some (asked_command k)) c.in-Demo.is in
-    (t.out, t.written, λ n. for_any (λ (x : FilesView). Answers ws x.contents o tasks t.out) _ (λ x. answers_of ws x.contents (demo d) o tasks t.out is (gives_told x.contents d o tasks t.out t.kinds t.puts t.tasks_are)))
+    (t.out, t.written, λ n. for_any (λ (x : FilesView). Answers ws x.contents o tasks t.out) _ (λ x. answers_of ws x.contents (demo d) o tasks t.out is (told_over x.contents d o tasks t.out t.gives)))
 
 pub returns-in-Run-clause-leaves : goal.returns-in-Run-clause-leaves
 returns-in-Run-clause-leaves g c a e =
@@ -111,7 +111,8 @@ returns-in-Demo-clause-leaves g c a e =
     let is : command_of ws ≡ Some (demo d) = c.in-Ok.ensures.taken ∙ ap (λ (k : Command). Some (asked_command k)) c.in-Demo.is in
     let both : Some a ≡ Some (demo d) = sym e ∙ is in
     let same : a ≡ demo d = cc in
-    tell_leaves a d c.demo_command.result.outcome _ same c.demo_command.ensures.told.kinds
+    let t = c.demo_command.ensures.told in
+    tell_leaves a d c.demo_command.result.outcome _ same (told_kinds d c.demo_command.result.outcome c.demo_command.result.tasks t.out t.gives)
 
 -- ---- a chain
 
@@ -138,7 +139,10 @@ pub returns-in-Check-clause-second : goal.returns-in-Check-clause-second
 returns-in-Check-clause-second g c k = absurd (c.check_command.ensures.alone k)
 
 pub returns-in-Demo-clause-second : goal.returns-in-Demo-clause-second
-returns-in-Demo-clause-second g c k = absurd (put_alone c.demo_command.result.outcome c.demo_command.ensures.told.kinds k)
+returns-in-Demo-clause-second g c k =
+    let o = c.demo_command.result.outcome in
+    let t = c.demo_command.ensures.told in
+    absurd (put_alone o (told_kinds (asked_demo c.in-Demo.demo) o c.demo_command.result.tasks t.out t.gives) k)
 
 pub returns-in-Chain-clause-second : goal.returns-in-Chain-clause-second
 returns-in-Chain-clause-second g c k = (asked_chain c.in-Chain.chain, c.in-Ok.ensures.taken ∙ ap (λ (x : Command). Some (asked_command x)) c.in-Chain.is)
