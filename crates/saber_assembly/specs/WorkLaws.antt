@@ -3,7 +3,8 @@ use Rattle.std.proofs.Common.{false, true, length-take, ◌≡◌, ℕ, ◌+◌,
 use Rattle.std.specs.Int.{div_ceil}
 use Rattle.std.proofs.lemmas.Bool.Decides.{nat_tests}
 use Rattle.std.proofs.lemmas.Bool.{cases_lt}
-use Rattle.std.proofs.lemmas.List.{take-append-le, take_all}
+use Rattle.std.proofs.lemmas.List.{take-append-le, take-take, take_all}
+use Rattle.std.proofs.lemmas.Option.{IfSome_then}
 use Rattle.std.proofs.Math.Nat.{mul-le-mul}
 use Rattle.saber_plan.specs.declared.rows.Row.{Row}
 use Rattle.saber_plan.specs.Inputs.{Input}
@@ -23,7 +24,7 @@ use Rattle.saber_plan.specs.declared.stages.StageState.TheVariants.{Running}
 use Rattle.saber_assembly.specs.declared.work.RunData.{RunData}
 use Rattle.saber_assembly.specs.Stages.{stage_view, IsPieceAt}
 use Rattle.saber_plan.specs.Stages.{StageView, Start, Tasks, After, Keeps}
-use Rattle.saber_assembly.specs.Works.{IsTold, input_of, with_input, with_block, first_tasks, start_of, IsBlockOf, IsPieceOf, IsStageOf, first_needed}
+use Rattle.saber_assembly.specs.Works.{IsTold, HasFirstRows, input_of, with_input, with_block, first_tasks, start_of, IsBlockOf, IsPieceOf, IsStageOf, first_needed}
 
 slice_size : {A : Type 0} (a b : ℕ) (l : List A) → length (slice_range l a b) ≡ min (b - a) (length l - a)
 slice_size a b l = let size = length-take (b - a) (drop a l) in let rest = length-drop a l in size ∙ ap (min (b - a)) rest
@@ -111,6 +112,31 @@ module _ (n : ℕ) (size : 1 ≤ n) (r r' : Input) (bs : List Row) (e : Bool) (d
     ended = (opens ∙ sym (is_false r.ended not_ended)) i;
   }
 
+-- ---- the rows of the first tasks
+
+up_to_all : {A : Type 0} (x : ℕ) (xs : List A) → take (min x (length xs)) xs ≡ take x xs
+up_to_all x xs = ⊎_elim
+    (λ k. ap (λ m. take m xs) (omega (arith, k)))
+    (λ k. take_all (min x (length xs)) xs (omega (arith, k)) ∙ sym (take_all x xs (omega (arith, k))))
+    (cases_lt x (length xs))
+
+cut_rows : {A : Type 0} (b : Bool) (c j x : ℕ) (xs : List A) → (c < j → length xs ≤ x) → take (cond (b && nat_lt c j) (suc (length xs)) (min x (length xs))) xs ≡ take x xs
+cut_rows true c j x xs all = ⊎_elim
+    (λ k.
+    let past : length xs ≤ x = all k in
+    let at : cond (true && nat_lt c j) (suc (length xs)) (min x (length xs)) ≡ suc (length xs) = grind (arith, nat_tests, k) in
+    ap (λ m. take m xs) at ∙ take_all (suc (length xs)) xs (omega arith) ∙ sym (take_all x xs past))
+    (λ k.
+    let at : cond (true && nat_lt c j) (suc (length xs)) (min x (length xs)) ≡ min x (length xs) = grind (arith, nat_tests, k) in
+    ap (λ m. take m xs) at ∙ up_to_all x xs)
+    (cases_lt c j)
+cut_rows false c j x xs all = up_to_all x xs
+
+pub upto_rows : (n : ℕ) (r : Input) (j : ℕ) → 1 ≤ n → (upto n r j).rows ≡ take (j * n) r.rows
+upto_rows n r j size =
+    cut_rows r.ended (row_tasks n r) j (j * n) r.rows
+    (λ past. le_trans (rows_fit (length r.rows) n size) (mul-le-mul (omega (arith, past)) (le_refl n)))
+
 -- the piece of task k follows what a stage after k tasks has taken in
 pub follows : (q : Tree) (n : ℕ) (r : Input) (start : Start) (s : StageView) (taken : Input → Type 0) (of : Input → ℕ → ℕ → Type 0)
     → Tasks q n r → task_start n r s.k ≤ task_start n r (s.k + 1) → Keeps q n r start taken s → s.state ≡ Running → IsPieceAt n r s.k of
@@ -140,6 +166,13 @@ module _ {O : Type 0} (plan : O → Tree) where
 
   pub tasks_whole : (told : RunData O) (d : ℕ) → IsTold plan told d → first_tasks told d ≡ told
   tasks_whole told d was = ap (with_input told) was.whole
+
+  -- as long as all filled rows are those of the input's first tasks, so are the rows of fewer
+  pub first_rows : (told : RunData O) (d j : ℕ) → IsTold plan told d → j ≤ d → HasFirstRows (first_tasks told j) j
+  first_rows told d j was le =
+      IfSome_then told.all was.of_input
+      (λ rows e. upto_rows told.size (input_of told) j was.tasks.size ∙ ap (take (j * told.size)) e
+      ∙ take-take (j * told.size) (d * told.size) rows (mul-le-mul le (le_refl told.size)))
 
   -- no task needs rows of a later one first
   pub needed_early : (told : RunData O) (d t : ℕ) → IsTold plan told d → t ≤ d → first_needed plan (first_tasks told t) t ≤ t

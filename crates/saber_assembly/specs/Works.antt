@@ -1,5 +1,5 @@
 -- What blocks, pieces and stages are, by the input filled so far.
-use Rattle.std.specs.Prelude.{◌≡◌, ◌≢◌, ℕ, Bool, true, false, ◌++◌, ◌||◌}
+use Rattle.std.specs.Prelude.{◌≡◌, ◌≢◌, ℕ, ◌*◌, Bool, true, false, ◌++◌, ◌||◌, take, IfSome}
 use Rattle.saber_plan.specs.Inputs.{Input}
 use Rattle.saber_plan.specs.Trees.{Tree}
 use Rattle.saber_plan.specs.Tasks.{upto}
@@ -29,6 +29,10 @@ module _ {O : Type 0} where
   abbrev pub first_tasks : RunData O → ℕ → RunData O
   first_tasks told k = with_input told (upto told.size (input_of told) k)
 
+  -- where all rows of the input are known, those filled are the rows of its first d tasks
+  abbrev pub HasFirstRows : RunData O → ℕ → Type 0
+  HasFirstRows told d = IfSome told.all (λ rows. told.rows ≡ take (d * told.size) rows)
+
   -- the sink at the start
   abbrev pub start_of : RunData O → Start
   start_of told = record { written = told.written; faults = told.faults; writes = told.writes }
@@ -38,10 +42,11 @@ module _ {O : Type 0} (plan : O → Tree) where
   abbrev pub AreTasks : RunData O → Type 0
   AreTasks told = Tasks (plan told.operator) told.size (input_of told)
 
-  -- the first d tasks have all of it
+  -- the first d tasks have all of it, and their rows are those of the input's first d tasks
   pub record IsTold (told : RunData O) (d : ℕ) : Type 0 where
     pub tasks : AreTasks told
     pub whole : upto told.size (input_of told) d ≡ input_of told
+    pub of_input : HasFirstRows told d
 
   -- the first task whose rows task t needs
   abbrev pub first_needed : RunData O → ℕ → ℕ

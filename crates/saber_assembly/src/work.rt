@@ -24,6 +24,9 @@ pub struct RunData<O> {
     pub faults: u64,
     /// Its count of writes then.
     pub writes: u64,
+    /// The rows that the inputs give in all, where they are known when the run begins: those of
+    /// files that tell what they have. What a chain's second query reads isn't written then.
+    pub all: Option<Rows>,
     pub rows: Rows,
     /// Whether the input's end stands behind them.
     pub ended: bool,

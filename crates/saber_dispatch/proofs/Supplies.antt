@@ -15,7 +15,7 @@ use Rattle.saber_fragment.specs.declared.blocks.Block.{Block}
 use Rattle.saber_fragment.specs.Drafts.{EndWith}
 use Rattle.saber_assembly.specs.declared.work.RunData.{RunData}
 use Rattle.saber_plan.specs.Stages.{Tasks}
-use Rattle.saber_assembly.specs.Works.{input_of, with_block}
+use Rattle.saber_assembly.specs.Works.{HasFirstRows, input_of, with_block}
 use Rattle.saber_dispatch.specs.Cutting.{Adds, IsNextBlock}
 use Rattle.saber_dispatch.specs.Keeping.{IsPlaced}
 use Rattle.saber_places.specs.Counting.{places_behind}
@@ -74,7 +74,8 @@ unended : (m : Mark) (xs : List Row) → m.ended ≡ false → (mark_after m xs)
 unended m [] h = h
 unended m (x ∷ xs) h = unended (step_mark m x) xs h
 
-module _ {O : Type 0} (plan : O → Tree) (told : RunData O) (s : Sizes) (b : Block) (size : told.size ≡ s.task) (next : IsNextBlock (plan told.operator) s (input_of told) b) (placed : IsPlaced (plan told.operator) told.rows b) where
+module _ {O : Type 0} (plan : O → Tree) (told : RunData O) (s : Sizes) (b : Block) (size : told.size ≡ s.task) (next : IsNextBlock (plan told.operator) s (input_of told) b) (placed : IsPlaced (plan told.operator) told.rows b)
+    (of_input : HasFirstRows (with_block told b) (b.number + 1)) where
   abbrev q : Tree
   q = plan told.operator
 
@@ -116,8 +117,8 @@ module _ {O : Type 0} (plan : O → Tree) (told : RunData O) (s : Sizes) (b : Bl
       number = refl;
       first = next.first ∙ ap (λ i. free q s.task i b.number) (goes_on (input_of told) next.unended ∙ sym stand.front) ∙ ap (λ n. free q n (upto told.size more b.number) b.number) (sym size);
     };
-    told_is = record { tasks = tasks; whole = stand.whole };
+    told_is = record { tasks = tasks; whole = stand.whole; of_input = of_input };
   }
 
 pub blocks_are_supplied : {O : Type 0} (plan : O → Tree) → BlocksAreSupplied plan
-blocks_are_supplied plan told s b size next placed = supplied plan told s b size next placed
+blocks_are_supplied plan told s b size next placed of_input = supplied plan told s b size next placed of_input

@@ -4,7 +4,7 @@ use Rattle.saber_plan.specs.declared.sizes.Sizes.{Sizes}
 use Rattle.saber_plan.specs.Trees.{Tree}
 use Rattle.saber_fragment.specs.declared.blocks.Block.{Block}
 use Rattle.saber_assembly.specs.declared.work.RunData.{RunData}
-use Rattle.saber_assembly.specs.Works.{IsTold, IsBlockOf, input_of, with_block}
+use Rattle.saber_assembly.specs.Works.{HasFirstRows, IsTold, IsBlockOf, input_of, with_block}
 use Rattle.saber_dispatch.specs.Cutting.{IsNextBlock}
 use Rattle.saber_dispatch.specs.Keeping.{IsPlaced}
 
@@ -14,6 +14,8 @@ module _ {O : Type 0} (plan : O → Tree) where
     pub block : IsBlockOf plan (with_block told b) b.number b
     pub told_is : IsTold plan (with_block told b) (b.number + 1)
 
-  -- a block that is given behind those that have the input filled so far, and has its rows' places, is the next task's
+  -- a block that is given behind those that have the input filled so far, with rows of the input's, and has its rows' places, is the next task's
   abbrev pub BlocksAreSupplied : Type 0
-  BlocksAreSupplied = (told : RunData O) (s : Sizes) (b : Block) → told.size ≡ s.task → IsNextBlock (plan told.operator) s (input_of told) b → IsPlaced (plan told.operator) told.rows b → IsSupplied told b
+  BlocksAreSupplied =
+      (told : RunData O) (s : Sizes) (b : Block) → told.size ≡ s.task → IsNextBlock (plan told.operator) s (input_of told) b → IsPlaced (plan told.operator) told.rows b
+      → HasFirstRows (with_block told b) (b.number + 1) → IsSupplied told b

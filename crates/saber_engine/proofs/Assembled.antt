@@ -2,6 +2,7 @@
 use Rattle.std.proofs.Common.{◌≡◌, ℕ, suc, Bool, true, false, ◌+◌, ◌≤◌, List, ◌++◌, refl, sym, ◌∙◌, ap, arith}
 use Rattle.std.proofs.Math.Path.{transport}
 use Rattle.std.specs.Prelude.{Option}
+use Rattle.saber_plan.specs.declared.rows.Row.{Row}
 use Rattle.saber_plan.specs.Outputs.{raised_by, appended_text}
 use Rattle.saber_plan.specs.Inputs.{Input}
 use Rattle.saber_plan.specs.Trees.{Tree}
@@ -52,8 +53,8 @@ after_all q n r start j s NoMemory le next a = (a.0 ∙ ap (λ z. appended_text 
 apart : Running ≡ SinkFailed → ⊥
 apart e = cc
 
-module _ {O S K : Type 0} (plan : O → Tree) (contents : S → Kept) (taken : O → S → Input → Type 0) (wrote : K → Option (List ℕ)) (failed writes : K → ℕ) (op : O) (n : ℕ) (w : Option (List ℕ)) (f times : ℕ) (given : RunData O → ℕ → Type 0) (over : Type 0) (s : Stage S K) (fed : Dispatched)
-    (r : RunsTo (IsTold plan) first_tasks (IsStageOf plan (stage_view contents wrote failed writes) taken) given over (first_told op n w f times) s fed) where
+module _ {O S K : Type 0} (plan : O → Tree) (contents : S → Kept) (taken : O → S → Input → Type 0) (wrote : K → Option (List ℕ)) (failed writes : K → ℕ) (op : O) (n : ℕ) (w : Option (List ℕ)) (f times : ℕ) (rows : Option (List Row)) (given : RunData O → ℕ → Type 0) (over : Type 0) (s : Stage S K) (fed : Dispatched)
+    (r : RunsTo (IsTold plan) first_tasks (IsStageOf plan (stage_view contents wrote failed writes) taken) given over (first_told op n w f times rows) s fed) where
   pub op_is : r.told.operator ≡ op
   op_is = ap (λ (z : RunData O). z.operator) r.base_is
 

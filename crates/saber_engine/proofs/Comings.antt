@@ -2,6 +2,7 @@
 use Rattle.std.proofs.Common.{◌≡◌, ◌≢◌, ℕ, suc, ◌+◌, ◌≤◌, List, [], ◌++◌, refl, sym, ◌∙◌, ap, subst, arith}
 use Rattle.std.specs.Prelude.{Option, Some, None}
 use Rattle.saber_plan.specs.Outputs.{raised_by, Rose, appended_text}
+use Rattle.saber_plan.specs.declared.rows.Row.{Row}
 use Rattle.saber_plan.specs.declared.rows.Side.{Side}
 use Rattle.saber_plan.specs.declared.sizes.Sizes.{Sizes}
 use Rattle.saber_plan.specs.Inputs.{Input}
@@ -69,8 +70,8 @@ not_failed : states.Running ≡ states.SinkFailed → ⊥
 not_failed e = cc
 
 module _ {O S K : Type 0} (plan : O → Tree) (contents : S → Kept) (taken : O → S → Input → Type 0) (wrote : K → Option (List ℕ)) (failed writes : K → ℕ)
-    (op : O) (s : Sizes) (w : Option (List ℕ)) (f times : ℕ) (IsGiven : RunData O → ℕ → Type 0) (IsOver : Type 0) (c : Cutter) (end : Option End) (stage : Stage S K) (fed : Dispatched)
-    (r : RunsTo (IsTold plan) first_tasks (IsStageOf plan (stage_view contents wrote failed writes) taken) IsGiven IsOver (first_told op s.task w f times) stage fed)
+    (op : O) (s : Sizes) (w : Option (List ℕ)) (f times : ℕ) (known_rows : Option (List Row)) (IsGiven : RunData O → ℕ → Type 0) (IsOver : Type 0) (c : Cutter) (end : Option End) (stage : Stage S K) (fed : Dispatched)
+    (r : RunsTo (IsTold plan) first_tasks (IsStageOf plan (stage_view contents wrote failed writes) taken) IsGiven IsOver (first_told op s.task w f times known_rows) stage fed)
     (given : GivenBy s c end (told_input r.told) r.count) where
   abbrev q : Tree
   q = plan op
@@ -85,19 +86,19 @@ module _ {O S K : Type 0} (plan : O → Tree) (contents : S → Kept) (taken : O
   count = given.count
 
   behind : stage.k ≤ r.count
-  behind = few plan contents taken wrote failed writes op s.task w f times IsGiven IsOver stage fed r
+  behind = few plan contents taken wrote failed writes op s.task w f times known_rows IsGiven IsOver stage fed r
 
   behind_next : stage.state ≡ states.SinkFailed → stage.k + 1 ≤ r.count
-  behind_next = few_next plan contents taken wrote failed writes op s.task w f times IsGiven IsOver stage fed r
+  behind_next = few_next plan contents taken wrote failed writes op s.task w f times known_rows IsGiven IsOver stage fed r
 
   stands : After q s.task all start (stage_view contents wrote failed writes stage) stage.state
-  stands = after plan contents taken wrote failed writes op s.task w f times IsGiven IsOver stage fed r
+  stands = after plan contents taken wrote failed writes op s.task w f times known_rows IsGiven IsOver stage fed r
 
   stands_so : (state : StageState) → stage.state ≡ state → After q s.task all start (stage_view contents wrote failed writes stage) state
   stands_so state e = subst (After q s.task all start (stage_view contents wrote failed writes stage)) e stands
 
   whole_behind : stage.state ≡ states.Running → fed.over ≡ over_by.AllGiven → stage.k ≡ task_count s.task all
-  whole_behind h e = (all_behind plan contents taken wrote failed writes op s.task w f times IsGiven IsOver stage fed r h e).0 ∙ count
+  whole_behind h e = (all_behind plan contents taken wrote failed writes op s.task w f times known_rows IsGiven IsOver stage fed r h e).0 ∙ count
 
   abbrev so_far : List ℕ
   so_far = text q (upto s.task all stage.k)

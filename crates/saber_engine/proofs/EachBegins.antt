@@ -28,6 +28,7 @@ use Rattle.saber_many.specs.Queries.{IsAlone}
 use Rattle.saber_many.specs.Sharing.{ToldAt, GoesBy, MemberAt, AreTold, AreStages}
 use Rattle.saber_engine.specs.Dealing.{GivenOne, GivenEach}
 use Rattle.saber_engine.specs.Jobs.{MayShare, KeepsNone, Stands, base_of, bases}
+use Rattle.saber_engine.specs.Sources.{rows_left}
 use Rattle.saber_engine.specs.Supplying.{HasGiven}
 use Rattle.saber_engine.proofs.Shapes.{no_join}
 use Rattle.saber_engine.proofs.Starting.{given_none, begins}
@@ -48,7 +49,7 @@ module _ {O S K : Type 0} (plan : O → Tree) (contents : S → Kept) (taken : O
     (suit : (q : Tree) → length q.streams ≡ 1 → readings.Suits (fresh q (limits_of s)) had) where
   module _ (op : O) (a : A) (k : Keeper) (m : Member (Stage S K)) (is : plan op ≡ tree a) (may : MayShare columns (tree a)) (cuts : CutsNothing (tree a) s c) (keeps : KeepsNone (tree a) k) (stands : Stands plan contents taken wrote failed writes op (sink a) m) where
     abbrev told : RunData O
-    told = base_of s.task wrote failed writes op m
+    told = base_of s.task (rows_left plan s had) wrote failed writes op m
 
     mine : MayShare columns (plan op)
     mine = subst (MayShare columns) (sym is) may
@@ -64,12 +65,12 @@ module _ {O S K : Type 0} (plan : O → Tree) (contents : S → Kept) (taken : O
 
     pub begins_one : ToldAt (IsTold plan) (IsAlone plan) 0 told × MemberAt first_tasks (IsStageOf plan (stage_view contents wrote failed writes) taken) 0 told m × Suits op told × GivenOne plan s had had before before c end 0 k told
     begins_one =
-        let b = begins plan contents taken wrote failed writes op s.task m.stage (checked_fit (plan op) mine.checked) fit.task.0 (sink a) stands.sink_is stands.none stands.runs stands.keeps (HasGiven plan s had had before before c k end) given in
+        let b = begins plan contents taken wrote failed writes op s.task (rows_left plan s had op) m.stage (checked_fit (plan op) mine.checked) fit.task.0 (sink a) stands.sink_is stands.none stands.runs stands.keeps (HasGiven plan s had had before before c k end) given in
         ((b.0, alone), subst (λ g. GoesBy first_tasks (IsStageOf plan (stage_view contents wrote failed writes) taken) g told 0 m.stage) (sym stands.goes) b.1, b.2, (b.3, alone))
 
   pub each_begins : (ops : List O) (qs : List A) (ks : List Keeper) (ms : List (Member (Stage S K))) → AllZip (λ op a. plan op ≡ tree a) ops qs → AllByRecursion (λ a. MayShare columns (tree a)) qs
       → AllByRecursion (λ a. CutsNothing (tree a) s c) qs → AllZip (λ a k. KeepsNone (tree a) k) qs ks → AllThree (λ op a m. Stands plan contents taken wrote failed writes op (sink a) m) ops qs ms
-      → BeginsEach plan contents taken wrote failed writes s had before c end ops ks ms (bases s.task wrote failed writes ops ms)
+      → BeginsEach plan contents taken wrote failed writes s had before c end ops ks ms (bases s.task (rows_left plan s had) wrote failed writes ops ms)
   each_begins [] [] [] [] is may cuts keeps stands = record { told_are = tt; stages = tt; suits = tt; given = tt }
   each_begins [] [] [] (m ∷ ms) is may cuts keeps stands = absurd stands
   each_begins [] [] (k ∷ ks) ms is may cuts keeps stands = absurd keeps
@@ -89,13 +90,13 @@ module _ {O S K : Type 0} (plan : O → Tree) (contents : S → Kept) (taken : O
   bases_some [] (a ∷ qs) (m ∷ ms) some stands e = stands
   bases_some (op ∷ ops) [] ms some stands e = some refl
   bases_some (op ∷ ops) (a ∷ qs) [] some stands e = stands
-  bases_some (op ∷ ops) (a ∷ qs) (m ∷ ms) some stands e = not_none (base_of s.task wrote failed writes op m) (bases s.task wrote failed writes ops ms) e
+  bases_some (op ∷ ops) (a ∷ qs) (m ∷ ms) some stands e = not_none (base_of s.task (rows_left plan s had) wrote failed writes op m) (bases s.task (rows_left plan s had) wrote failed writes ops ms) e
 
   -- what is asked of a run of all, by the data and sizes that it names
   abbrev pub BeginsAll : List O → List Keeper → List (Member (Stage S K)) → ℕ → Sizes → Lefts → List ℕ → Type 0
   BeginsAll ops ks ms n z l b =
-      AreTold (IsTold plan) (IsAlone plan) (bases n wrote failed writes ops ms) 0 × AreStages first_tasks (IsStageOf plan (stage_view contents wrote failed writes) taken) (bases n wrote failed writes ops ms) 0 false ms
-      × AllSuit Suits ops (bases n wrote failed writes ops ms) × GivenEach plan z l had b before c end ks (bases n wrote failed writes ops ms) 0
+      AreTold (IsTold plan) (IsAlone plan) (bases n (rows_left plan z l) wrote failed writes ops ms) 0 × AreStages first_tasks (IsStageOf plan (stage_view contents wrote failed writes) taken) (bases n (rows_left plan z l) wrote failed writes ops ms) 0 false ms
+      × AllSuit Suits ops (bases n (rows_left plan z l) wrote failed writes ops ms) × GivenEach plan z l had b before c end ks (bases n (rows_left plan z l) wrote failed writes ops ms) 0
 
   pub begins_all : (ops : List O) (qs : List A) (ks : List Keeper) (ms : List (Member (Stage S K))) → qs ≢ [] → AllZip (λ op a. plan op ≡ tree a) ops qs → AllByRecursion (λ a. MayShare columns (tree a)) qs
       → AllByRecursion (λ a. CutsNothing (tree a) s c) qs → AllZip (λ a k. KeepsNone (tree a) k) qs ks → AllThree (λ op a m. Stands plan contents taken wrote failed writes op (sink a) m) ops qs ms

@@ -51,9 +51,11 @@ use Rattle.saber_plan.specs.Runs.{GivesOver, writes_over}
 use Rattle.saber_engine.specs.Jobs.{MayShare, Stands, base_of, bases, EndsAs}
 use Rattle.saber_engine.specs.LastTasks.{ComesLast, CanTake, TakesBlock, Takes, CanTakeEach, TakesEach}
 use Rattle.saber_engine.specs.Runs.{RunsPlan}
+use Rattle.saber_engine.specs.Sources.{rows_left}
 use Rattle.saber_engine.specs.Supplying.{HasGiven, first_told}
 use Rattle.saber_engine.proofs.Assembled.{op_is}
 use Rattle.saber_engine.proofs.Counts.{few_blocks}
+use Rattle.saber_engine.proofs.FirstRows.{given_first}
 use Rattle.saber_engine.proofs.Finals.{other_given, stopped_given, final_given, given_so, all_behind, block, front, base_stays, final_runs}
 use Rattle.saber_engine.proofs.Results.{Done, done, done_nothing, suits, if_told, took, took_none}
 
@@ -116,15 +118,15 @@ module _ {O S K : Type 0} (plan : O → Tree) (contents : S → Kept) (taken : O
     abbrev DoneSo : Stage S K → Type 0
     DoneSo stage = Done (plan op) s had has before now w f times (end_of stage.state fed.over end) stage.k (wrote stage.sink) (failed stage.sink) (writes stage.sink)
 
-    module _ (old : Stage S K) (o : RunsOne (first_told op s.task w f times) old) where
+    module _ (old : Stage S K) (o : RunsOne (first_told op s.task w f times (rows_left plan s had op)) old) where
       abbrev k : Keeper
       k = o.keeper
 
-      abbrev r : RunsTo (IsTold plan) first_tasks is_stage (HasGiven plan (without_end s) had has before now c k end) (IsSome end) (first_told op s.task w f times) old fed
+      abbrev r : RunsTo (IsTold plan) first_tasks is_stage (HasGiven plan (without_end s) had has before now c k end) (IsSome end) (first_told op s.task w f times (rows_left plan s had op)) old fed
       r = o.run
 
       op_same : r.told.operator ≡ op
-      op_same = op_is plan contents taken wrote failed writes op s.task w f times (HasGiven plan (without_end s) had has before now c k end) (IsSome end) old fed r
+      op_same = op_is plan contents taken wrote failed writes op s.task w f times (rows_left plan s had op) (HasGiven plan (without_end s) had has before now c k end) (IsSome end) old fed r
 
       same_counts : end_counts (plan r.told.operator) s ≡ end_counts (plan op) s
       same_counts = ap (λ x. end_counts (plan x) s) op_same
@@ -133,13 +135,13 @@ module _ {O S K : Type 0} (plan : O → Tree) (contents : S → Kept) (taken : O
       still_by : (due : Bool) → (is_end_due c && end_counts (plan r.told.operator) s) ≡ due → (due ≡ true → old.state ≡ states.Running → fed.over ≢ over_by.AllGiven) → DoneSo old
       still_by false off not_all =
           done plan contents taken wrote failed writes op s w f times had has before now (with_end (plan r.told.operator) s c) k end old fed
-          (given_so (IsTold plan) first_tasks is_stage (HasGiven plan (without_end s) had has before now c k end) (HasGiven plan s had has before now (with_end (plan r.told.operator) s c) k end) (IsSome end) (IsSome end) (first_told op s.task w f times) old fed r
+          (given_so (IsTold plan) first_tasks is_stage (HasGiven plan (without_end s) had has before now c k end) (HasGiven plan s had has before now (with_end (plan r.told.operator) s c) k end) (IsSome end) (IsSome end) (first_told op s.task w f times (rows_left plan s had op)) old fed r
           (other_given plan s had has before now c k end r.told r.count r.is_given off) (λ x. x))
       still_by true is not_all =
           let lacks : Cutter = record c { flush = end_counts (plan r.told.operator) s; ended = Some cuts.NoMemory } in
           let all = (due_all c.number c.ended (both_on (is_end_due c) (end_counts (plan r.told.operator) s) is).0).0 in
           let d = done plan contents taken wrote failed writes op s w f times had has before now lacks k (Some cuts.NoMemory) old fed
-          (given_so (IsTold plan) first_tasks is_stage (HasGiven plan (without_end s) had has before now c k end) (HasGiven plan s had has before now lacks k (Some cuts.NoMemory)) (IsSome end) (IsSome (Some cuts.NoMemory)) (first_told op s.task w f times) old fed r
+          (given_so (IsTold plan) first_tasks is_stage (HasGiven plan (without_end s) had has before now c k end) (HasGiven plan s had has before now lacks k (Some cuts.NoMemory)) (IsSome end) (IsSome (Some cuts.NoMemory)) (first_told op s.task w f times (rows_left plan s had op)) old fed r
           (stopped_given plan s had has before now c k end r.told r.count r.is_given all) (λ x. refl)) in
           subst (λ e. Done (plan op) s had has before now w f times e old.k (wrote old.sink) (failed old.sink) (writes old.sink)) (end_same old.state fed.over (Some cuts.NoMemory) end (not_all refl)) d
 
@@ -155,7 +157,10 @@ module _ {O S K : Type 0} (plan : O → Tree) (contents : S → Kept) (taken : O
         gives = each (plan r.told.operator) s had has (told_input r.told) o.alone (same_counts ∙ counts) r.is_given.cuts
 
         supplied : IsSupplied plan r.told b
-        supplied = blocks_are_supplied plan r.told s b r.is_given.size gives.next gives.placed
+        supplied =
+            let next : b.number ≡ c.number = gives.next.number ∙ sym r.is_given.cuts.count in
+            let first = given_first plan s had has (end_given c) (with_block r.told b) (b.number + 1) gives.cuts r.is_given.size (ap (λ n. n + 1) next) r.is_given.all in
+            blocks_are_supplied plan r.told s b r.is_given.size gives.next gives.placed first
 
         number : b.number ≡ r.count
         number = gives.next.number ∙ sym r.is_given.cuts.count ∙ sym r.is_given.count
@@ -164,15 +169,15 @@ module _ {O S K : Type 0} (plan : O → Tree) (contents : S → Kept) (taken : O
         given = HasGiven plan (without_end s) had has before now c k end
 
         next_block : IsBlockOf plan (with_block r.told b) r.count b
-        next_block = block plan contents taken wrote failed writes given (IsSome end) (first_told op s.task w f times) old fed r all runs b supplied number
+        next_block = block plan contents taken wrote failed writes given (IsSome end) (first_told op s.task w f times (rows_left plan s had op)) old fed r all runs b supplied number
 
         suits_more : Suits op (first_tasks (with_block r.told b) 0)
-        suits_more = ap (λ (t : RunData O). t.operator) (base_stays plan contents taken wrote failed writes given (IsSome end) (first_told op s.task w f times) old fed r all runs b supplied number)
+        suits_more = ap (λ (t : RunData O). t.operator) (base_stays plan contents taken wrote failed writes given (IsSome end) (first_told op s.task w f times (rows_left plan s had op)) old fed r all runs b supplied number)
 
         behind : is_stage (first_tasks (with_block r.told b) r.count) r.count false old
         behind =
-            subst (λ t. is_stage t r.count false old) (sym (front plan contents taken wrote failed writes given (IsSome end) (first_told op s.task w f times) old fed r all runs b supplied number))
-            (all_behind plan contents taken wrote failed writes given (IsSome end) (first_told op s.task w f times) old fed r all runs)
+            subst (λ t. is_stage t r.count false old) (sym (front plan contents taken wrote failed writes given (IsSome end) (first_told op s.task w f times (rows_left plan s had op)) old fed r all runs b supplied number))
+            (all_behind plan contents taken wrote failed writes given (IsSome end) (first_told op s.task w f times (rows_left plan s had op)) old fed r all runs)
 
         -- it may be taken
         can : CanDo first_tasks (IsBlockOf plan) is_stage (IsAlone plan) Suits op old b
@@ -194,7 +199,7 @@ module _ {O S K : Type 0} (plan : O → Tree) (contents : S → Kept) (taken : O
             let does = t.takes counts runs in
             let on = does.1 (with_block r.told b) r.count suits_more (next_block, o.alone) behind in
             let d = done plan contents taken wrote failed writes op s w f times had has before now (end_given c) k (Some cuts.AllRead) new (record fed { tasks = fed.tasks + 1 })
-            (final_runs plan contents taken wrote failed writes given (IsSome end) (first_told op s.task w f times) old fed r all runs b supplied number new (HasGiven plan s had has before now (end_given c) k (Some cuts.AllRead))
+            (final_runs plan contents taken wrote failed writes given (IsSome end) (first_told op s.task w f times (rows_left plan s had op)) old fed r all runs b supplied number new (HasGiven plan s had has before now (end_given c) k (Some cuts.AllRead))
             (final_given plan s had has before now c k end r.told r.count r.is_given (due_all c.number c.ended due).0 b gives is_end) (IsSome (Some cuts.AllRead)) refl does.0 on) in
             subst (λ e. Done (plan op) s had has before now w f times (end_of new.state fed.over e) new.k (wrote new.sink) (failed new.sink) (writes new.sink)) (sym is_end) d
 
@@ -241,16 +246,16 @@ module _ {O S K : Type 0} (plan : O → Tree) (contents : S → Kept) (taken : O
 
   -- a run of all is one of each, by the data and sizes that it names
   pub all_run : (ops : List O) (olds : List (Member (Stage S K))) (news : Vec (Member (Stage S K)) Global) (ks : List Keeper) (n : ℕ) (z : Sizes) (l : Lefts) (b : List ℕ) → n ≡ s.task → z ≡ without_end s → l ≡ had → b ≡ before
-      → RunsTo (AreTold (IsTold plan) (IsAlone plan)) (all_upto first_tasks) (λ told k stopped (v : Vec (Member (Stage S K)) Global). AreStages first_tasks is_stage told k stopped v.items) (GivenEach plan z l has b now c end ks) (IsSome end) (bases n wrote failed writes ops olds) news fed
-      → AllZip (λ b m. RunsOne b m.stage) (bases s.task wrote failed writes ops olds) news.items
+      → RunsTo (AreTold (IsTold plan) (IsAlone plan)) (all_upto first_tasks) (λ told k stopped (v : Vec (Member (Stage S K)) Global). AreStages first_tasks is_stage told k stopped v.items) (GivenEach plan z l has b now c end ks) (IsSome end) (bases n (rows_left plan z l) wrote failed writes ops olds) news fed
+      → AllZip (λ b m. RunsOne b m.stage) (bases s.task (rows_left plan s had) wrote failed writes ops olds) news.items
   all_run ops olds news ks n z l b n_is z_is l_is b_is all =
-      let (told, count, given, runs) = each_runs (IsTold plan) (IsAlone plan) first_tasks is_stage first_fronts (λ (e : Option End) (k : List Keeper). GivenEach plan z l has b now c e k) (λ (e : Option End). IsSome e) (λ (v : Vec (Member (Stage S K)) Global). v.items) end ks (bases n wrote failed writes ops olds) news fed all in
+      let (told, count, given, runs) = each_runs (IsTold plan) (IsAlone plan) first_tasks is_stage first_fronts (λ (e : Option End) (k : List Keeper). GivenEach plan z l has b now c e k) (λ (e : Option End). IsSome e) (λ (v : Vec (Member (Stage S K)) Global). v.items) end ks (bases n (rows_left plan z l) wrote failed writes ops olds) news fed all in
       let g : GivenEach plan (without_end s) had has before now c end ks told count = transport (λ x. GivenEach plan (z_is x) (l_is x) has (b_is x) now c end ks told count) given in
-      let r : AllThree (RunsOnly count) told (bases s.task wrote failed writes ops olds) news.items = subst (λ m. AllThree (RunsOnly count) told (bases m wrote failed writes ops olds) news.items) n_is runs in
-      each_run count told (bases s.task wrote failed writes ops olds) news.items ks r g.1
+      let r : AllThree (RunsOnly count) told (bases s.task (rows_left plan s had) wrote failed writes ops olds) news.items = transport (λ x. AllThree (RunsOnly count) told (bases (n_is x) (rows_left plan (z_is x) (l_is x)) wrote failed writes ops olds) news.items) runs in
+      each_run count told (bases s.task (rows_left plan s had) wrote failed writes ops olds) news.items ks r g.1
 
   -- the end may be taken by each
-  pub each_can : {A : Type 0} (R : O → A → Member (Stage S K) → Type 0) (last : Option Block) → ComesLast c fed.over last → (ops : List O) (qs : List A) (olds ms : List (Member (Stage S K))) → AllThree R ops qs olds → AllZip (λ b m. RunsOne b m.stage) (bases s.task wrote failed writes ops olds) ms
+  pub each_can : {A : Type 0} (R : O → A → Member (Stage S K) → Type 0) (last : Option Block) → ComesLast c fed.over last → (ops : List O) (qs : List A) (olds ms : List (Member (Stage S K))) → AllThree R ops qs olds → AllZip (λ b m. RunsOne b m.stage) (bases s.task (rows_left plan s had) wrote failed writes ops olds) ms
       → CanTakeEach plan contents taken wrote failed writes s last ops ms
   each_can R last comes [] [] [] [] t r = tt
   each_can R last comes [] [] [] (m ∷ ms) t r = absurd r
@@ -262,7 +267,7 @@ module _ {O S K : Type 0} (plan : O → Tree) (contents : S → Kept) (taken : O
   each_can R last comes (op ∷ ops) (a ∷ qs) (o ∷ olds) (m ∷ ms) t r = (one_can op (wrote o.stage.sink) (failed o.stage.sink) (writes o.stage.sink) m.stage r.0 last comes, each_can R last comes ops qs olds ms t.1 r.1)
 
   -- there are as many behind the run
-  pub runs_long : {A : Type 0} (R : O → A → Member (Stage S K) → Type 0) (ops : List O) (qs : List A) (olds ms : List (Member (Stage S K))) → AllThree R ops qs olds → AllZip (λ b m. RunsOne b m.stage) (bases s.task wrote failed writes ops olds) ms → length ms ≡ length ops
+  pub runs_long : {A : Type 0} (R : O → A → Member (Stage S K) → Type 0) (ops : List O) (qs : List A) (olds ms : List (Member (Stage S K))) → AllThree R ops qs olds → AllZip (λ b m. RunsOne b m.stage) (bases s.task (rows_left plan s had) wrote failed writes ops olds) ms → length ms ≡ length ops
   runs_long R [] [] [] [] t r = refl
   runs_long R [] [] [] (m ∷ ms) t r = absurd r
   runs_long R [] [] (o ∷ olds) ms t r = absurd t
@@ -291,7 +296,7 @@ module _ {O S K X : Type 0} (plan : O → Tree) (contents : S → Kept) (taken :
   abbrev RunsAs : RunData O → Member (Stage S K) → Type 0
   RunsAs base m = RunsOne plan contents taken wrote failed writes s had has before now c end fed base m.stage
 
-  one_ran : (op : O) (a : A) (old mid new : Member (Stage S K)) (ran : Ran K) → plan op ≡ tree a → MayShare columns (tree a) → Stands plan contents taken wrote failed writes op (sink a) old → RunsAs (base_of s.task wrote failed writes op old) mid
+  one_ran : (op : O) (a : A) (old mid new : Member (Stage S K)) (ran : Ran K) → plan op ≡ tree a → MayShare columns (tree a) → Stands plan contents taken wrote failed writes op (sink a) old → RunsAs (base_of s.task (rows_left plan s had) wrote failed writes op old) mid
       → Takes plan contents taken wrote failed writes (end_counts (plan op) s) op last mid.stage new.stage → EndsAs fed.over end new ran → RunsPlan left faults wrote failed writes (tree a) s i j (sink a) ran
   one_ran op a old mid new ran is may stands o takes ends =
       let over = one_done plan contents taken wrote failed writes s had has before now c end fed op (wrote old.stage.sink) (failed old.stage.sink) (writes old.stage.sink) mid.stage o last comes new.stage takes in
@@ -301,7 +306,7 @@ module _ {O S K X : Type 0} (plan : O → Tree) (contents : S → Kept) (taken :
 
   -- each ran as if it ran alone
   pub each_ran : (ops : List O) (qs : List A) (olds mids news : List (Member (Stage S K))) (rans : List (Ran K)) → AllZip (λ op a. plan op ≡ tree a) ops qs → AllByRecursion (λ a. MayShare columns (tree a)) qs
-      → AllThree (λ op a m. Stands plan contents taken wrote failed writes op (sink a) m) ops qs olds → AllZip RunsAs (bases s.task wrote failed writes ops olds) mids → TakesEach plan contents taken wrote failed writes s last ops mids news
+      → AllThree (λ op a m. Stands plan contents taken wrote failed writes op (sink a) m) ops qs olds → AllZip RunsAs (bases s.task (rows_left plan s had) wrote failed writes ops olds) mids → TakesEach plan contents taken wrote failed writes s last ops mids news
       → AllZip (EndsAs fed.over end) news rans → AllZip (λ a ran. RunsPlan left faults wrote failed writes (tree a) s i j (sink a) ran) qs rans
   each_ran [] [] [] [] [] [] is may stands runs takes ends = tt
   each_ran [] [] [] [] [] (x ∷ xs) is may stands runs takes ends = absurd ends
@@ -319,7 +324,7 @@ module _ {O S K X : Type 0} (plan : O → Tree) (contents : S → Kept) (taken :
 
   -- by how the blocks ended, as they tell it when they go
   pub all_ran : (ops : List O) (qs : List A) (olds mids news : List (Member (Stage S K))) (rans : List (Ran K)) → AllZip (λ op a. plan op ≡ tree a) ops qs → AllByRecursion (λ a. MayShare columns (tree a)) qs
-      → AllThree (λ op a m. Stands plan contents taken wrote failed writes op (sink a) m) ops qs olds → AllZip RunsAs (bases s.task wrote failed writes ops olds) mids → TakesEach plan contents taken wrote failed writes s last ops mids news
+      → AllThree (λ op a m. Stands plan contents taken wrote failed writes op (sink a) m) ops qs olds → AllZip RunsAs (bases s.task (rows_left plan s had) wrote failed writes ops olds) mids → TakesEach plan contents taken wrote failed writes s last ops mids news
       → (over : Option End) → over ≡ end → AllZip (EndsAs fed.over over) news rans → AllZip (λ a ran. RunsPlan left faults wrote failed writes (tree a) s i j (sink a) ran) qs rans
   all_ran ops qs olds mids news rans is may stands runs takes over over_is ends = each_ran ops qs olds mids news rans is may stands runs takes (subst (λ o. AllZip (EndsAs fed.over o) news rans) over_is ends)
 

@@ -51,10 +51,11 @@ none_some : {A : Type 0} (x : A) → ◌≡◌ {A = Option A} None (Some x) → 
 none_some x e = cc
 
 -- no block was given
-pub fed_none : {O : Type 0} (plan : O → Tree) (op : O) (s : Sizes) (v : FeedView) (w : Option (List ℕ)) (f times : ℕ) (c : FedCutter) (k : Keeper) → CutsNothingFed (plan op) s c → fed_end_of c ≡ None → v.waiting ≡ v.taken → 1 ≤ s.task → k.kept ≡ None → CountsRows k (plan op) [] → HasFed plan s v.faults v c k None (first_told op s.task w f times) 0
+pub fed_none : {O : Type 0} (plan : O → Tree) (op : O) (s : Sizes) (v : FeedView) (w : Option (List ℕ)) (f times : ℕ) (c : FedCutter) (k : Keeper) → CutsNothingFed (plan op) s c → fed_end_of c ≡ None → v.waiting ≡ v.taken → 1 ≤ s.task → k.kept ≡ None → CountsRows k (plan op) [] → HasFed plan s v.faults v c k None (first_told op s.task w f times None) 0
 fed_none plan op s v w f times c k nothing open_still waits some kept counts = record {
   cuts = subst (λ z. CutsFed (plan op) s v.taken z v.mark c (going_on [])) (sym waits) (nothing v.taken v.mark);
   size = refl;
+  all = refl;
   count = let few : div_ceil 0 s.task ≤ 0 = tasks_have_rows s.task 0 some in omega (arith, few);
   kept = λ _. kept_none k kept;
   placed = λ _. counts;
@@ -115,7 +116,7 @@ pub record FedDone (q : Tree) (s : Sizes) (v : FeedView) (before : ℕ) (w : Opt
 
 module _ {O S K : Type 0} (plan : O → Tree) (contents : S → Kept) (taken : O → S → Input → Type 0) (wrote : K → Option (List ℕ)) (failed writes : K → ℕ)
     (op : O) (s : Sizes) (some : 1 ≤ s.task) (w : Option (List ℕ)) (f times : ℕ) (v : FeedView) (before : ℕ) (c : FedCutter) (k : Keeper) (end : Option End) (stage : Stage S K) (fed : Dispatched)
-    (r : RunsTo (IsTold plan) first_tasks (IsStageOf plan (stage_view contents wrote failed writes) taken) (HasFed plan s before v c k end) (IsSome end) (first_told op s.task w f times) stage fed) where
+    (r : RunsTo (IsTold plan) first_tasks (IsStageOf plan (stage_view contents wrote failed writes) taken) (HasFed plan s before v c k end) (IsSome end) (first_told op s.task w f times None) stage fed) where
   abbrev q : Tree
   q = plan op
 
@@ -123,13 +124,13 @@ module _ {O S K : Type 0} (plan : O → Tree) (contents : S → Kept) (taken : O
   all_input = told_input r.told
 
   cuts : CutsFed q s v.taken v.waiting v.mark c all_input
-  cuts = subst (λ o. CutsFed (plan o) s v.taken v.waiting v.mark c all_input) (op_is plan contents taken wrote failed writes op s.task w f times (HasFed plan s before v c k end) (IsSome end) stage fed r) r.is_given.cuts
+  cuts = subst (λ o. CutsFed (plan o) s v.taken v.waiting v.mark c all_input) (op_is plan contents taken wrote failed writes op s.task w f times None (HasFed plan s before v c k end) (IsSome end) stage fed r) r.is_given.cuts
 
   given_by : GivenBy s c.cutter end all_input r.count
   given_by = record { size = some; count = r.is_given.count; ended = r.is_given.ended }
 
   came : Came q s c.cutter end all_input stage.state fed.over stage.k w (wrote stage.sink) f (failed stage.sink) times (writes stage.sink)
-  came = came_to plan contents taken wrote failed writes op s w f times (HasFed plan s before v c k end) (IsSome end) c.cutter end stage fed r given_by
+  came = came_to plan contents taken wrote failed writes op s w f times None (HasFed plan s before v c k end) (IsSome end) c.cutter end stage fed r given_by
 
   leaves : (side : Side) → end_of stage.state fed.over end ≡ ReadFault side → TakesWhole q s.task (limits_of s) stage.k v.taken
   leaves side e =

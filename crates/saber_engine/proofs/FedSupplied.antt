@@ -23,6 +23,7 @@ use Rattle.saber_dispatch.proofs.Supplies.{blocks_are_supplied}
 use Rattle.saber_crew.specs.Supplies.{GivesRows}
 use Rattle.saber_engine.specs.FedSupplying.{FeedView, IsCounted, HasFed}
 use Rattle.saber_engine.proofs.Counts.{few_blocks, next_count}
+use Rattle.saber_engine.proofs.FirstRows.{none_known}
 use Rattle.saber_engine.proofs.Passed.{Passes, next_passed, is_placed, same_with, kept_on, counted_on}
 
 none_some : {A : Type 0} (x : A) → ◌≡◌ {A = Option A} None (Some x) → ⊥
@@ -82,12 +83,13 @@ module _ {O : Type 0} (plan : O → Tree) (s : Sizes) (before : ℕ) (v w : Feed
       let to = steps_to (steps.Block b) e in
       let next : IsNextBlock q s (input_of told) c = next_passed q s (input_of told) k b c l p (h.kept open_still) (h.placed open_still) to.0 in
       let number : c.number ≡ d = next.number ∙ sym h.count in
-      let is = blocks_are_supplied plan told s c h.size next (is_placed q s (input_of told) k b c l p (h.kept open_still) (h.placed open_still) to.0) in (
+      let is = blocks_are_supplied plan told s c h.size next (is_placed q s (input_of told) k b c l p (h.kept open_still) (h.placed open_still) to.0) (none_known (with_block told c) (c.number + 1) h.all) in (
         subst (λ t. IsBlockOf plan (with_block told c) t c) number is.block,
         subst (λ t. IsTold plan (with_block told c) (t + 1)) number is.told_is,
         record {
           cuts = subst (CutsFed q s w.taken w.waiting w.mark new) (same_with q s (input_of told) k b c l p (h.kept open_still) (h.placed open_still) to.0) to.1;
           size = h.size;
+          all = h.all;
           count = sym (next_count q s (input_of told) c next ∙ ap (λ t. t + 1) number);
           kept = λ _. kept_on q s (input_of told) k b c l p (h.kept open_still) (h.placed open_still) to.0;
           placed = λ _. counted_on q s (input_of told) k b c l p (h.kept open_still) (h.placed open_still) to.0;
@@ -105,6 +107,7 @@ module _ {O : Type 0} (plan : O → Tree) (s : Sizes) (before : ℕ) (v w : Feed
       record {
         cuts = to.1;
         size = h.size;
+        all = h.all;
         count = h.count;
         kept = h.kept;
         placed = h.placed;
@@ -122,6 +125,7 @@ module _ {O : Type 0} (plan : O → Tree) (s : Sizes) (before : ℕ) (v w : Feed
       record {
         cuts = taken.1;
         size = h.size;
+        all = h.all;
         count = h.count;
         kept = λ f. absurd (none_some NoMemory (sym f));
         placed = λ f. absurd (none_some NoMemory (sym f));
@@ -141,6 +145,7 @@ module _ {O : Type 0} (plan : O → Tree) (s : Sizes) (before : ℕ) (v w : Feed
       record {
         cuts = to.1;
         size = h.size;
+        all = h.all;
         count = h.count;
         kept = λ f. absurd (none_some e (sym f));
         placed = λ f. absurd (none_some e (sym f));
@@ -163,6 +168,7 @@ pub refilled : {O : Type 0} (plan : O → Tree) (s : Sizes) (before : ℕ) (v w 
 refilled plan s before v w c k end more fills same told d h = record {
   cuts = refills_keep (plan told.operator) s v.taken w.taken v.waiting w.waiting v.mark w.mark c (input_of told) more h.cuts fills;
   size = h.size;
+  all = h.all;
   count = h.count;
   kept = h.kept;
   placed = h.placed;

@@ -78,6 +78,7 @@ module _ {O : Type 0} (plan : O → Tree) (s : Sizes) (had has : Lefts) (before 
   other_given off = record {
     cuts = end_to_come q s had has c (input_of told) h.cuts;
     size = h.size;
+    all = h.all;
     count = h.count;
     kept = h.kept;
     placed = h.placed;
@@ -92,6 +93,7 @@ module _ {O : Type 0} (plan : O → Tree) (s : Sizes) (had has : Lefts) (before 
     stopped_given = record {
       cuts = lacks_end q s had has c (input_of told) h.cuts;
       size = h.size;
+      all = h.all;
       count = h.count;
       kept = λ f. absurd (none_some NoMemory (sym f));
       placed = λ f. absurd (none_some NoMemory (sym f));
@@ -109,6 +111,7 @@ module _ {O : Type 0} (plan : O → Tree) (s : Sizes) (had has : Lefts) (before 
     final_given b g is_end = record {
       cuts = g.cuts;
       size = h.size;
+      all = h.all;
       count = ap (λ n. n + 1) h.count;
       kept = λ f. absurd (none_some AllRead (sym f));
       placed = λ f. absurd (none_some AllRead (sym f));

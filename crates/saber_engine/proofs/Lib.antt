@@ -1,5 +1,6 @@
 mod Counts
 mod Passed
+mod FirstRows
 mod Supplied
 mod Deals
 mod Serves

@@ -33,7 +33,7 @@ use Rattle.saber_dispatch.proofs.TaskBlocks.{blocks_are_tasks}
 use Rattle.saber_dispatch.proofs.Leavings.{faults_leave_whole_tasks}
 use Rattle.saber_plan.specs.declared.ends.RunEnd.{RunEnd}
 use Rattle.saber_plan.specs.declared.ends.RunEnd.TheVariants.{ReadFault, WriteFault, NoMemory}
-use Rattle.saber_engine.specs.Sources.{told_by}
+use Rattle.saber_engine.specs.Sources.{told_by, rows_left}
 use Rattle.saber_plan.specs.Files.{input_of}
 use Rattle.saber_plan.specs.Runs.{Gives, IsClean, writes_over}
 use Rattle.saber_engine.specs.Gives.{ReadsWhole}
@@ -62,7 +62,7 @@ pub record Done (q : Tree) (s : Sizes) (had has : Lefts) (before now : List ℕ)
 
 module _ {O S K : Type 0} (plan : O → Tree) (contents : S → Kept) (taken : O → S → Input → Type 0) (wrote : K → Option (List ℕ)) (failed writes : K → ℕ)
     (op : O) (s : Sizes) (w : Option (List ℕ)) (f times : ℕ) (had has : Lefts) (before now : List ℕ) (c : Cutter) (k : Keeper) (end : Option End) (stage : Stage S K) (fed : Dispatched)
-    (r : RunsTo (IsTold plan) first_tasks (IsStageOf plan (stage_view contents wrote failed writes) taken) (HasGiven plan s had has before now c k end) (IsSome end) (first_told op s.task w f times) stage fed) where
+    (r : RunsTo (IsTold plan) first_tasks (IsStageOf plan (stage_view contents wrote failed writes) taken) (HasGiven plan s had has before now c k end) (IsSome end) (first_told op s.task w f times (rows_left plan s had op)) stage fed) where
   abbrev q : Tree
   q = plan op
 
@@ -70,13 +70,13 @@ module _ {O S K : Type 0} (plan : O → Tree) (contents : S → Kept) (taken : O
   all = told_input r.told
 
   cuts : Cuts q s had has c all
-  cuts = subst (λ o. Cuts (plan o) s had has c all) (op_is plan contents taken wrote failed writes op s.task w f times (HasGiven plan s had has before now c k end) (IsSome end) stage fed r) r.is_given.cuts
+  cuts = subst (λ o. Cuts (plan o) s had has c all) (op_is plan contents taken wrote failed writes op s.task w f times (rows_left plan s had op) (HasGiven plan s had has before now c k end) (IsSome end) stage fed r) r.is_given.cuts
 
   given_by : GivenBy s c end all r.count
   given_by = record { size = cuts.sizes.task.0; count = r.is_given.count ∙ cuts.count; ended = r.is_given.ended }
 
   came : Came q s c end all stage.state fed.over stage.k w (wrote stage.sink) f (failed stage.sink) times (writes stage.sink)
-  came = came_to plan contents taken wrote failed writes op s w f times (HasGiven plan s had has before now c k end) (IsSome end) c end stage fed r given_by
+  came = came_to plan contents taken wrote failed writes op s w f times (rows_left plan s had op) (HasGiven plan s had has before now c k end) (IsSome end) c end stage fed r given_by
 
   told_so : (files : List (List ℕ)) → Suits (fresh q (limits_of s)) had → had ≡ map Some files → telling.AreTasks q s c all (input_of q (limits_of s) files)
   told_so files suits e = blocks_are_tasks q s files has c all (subst (Suits (fresh q (limits_of s))) e suits) (subst (λ l. Cuts q s l has c all) e cuts)

@@ -20,6 +20,7 @@ use Rattle.saber_dispatch.proofs.Supplies.{blocks_are_supplied}
 use Rattle.saber_crew.specs.Supplies.{GivesRows}
 use Rattle.saber_engine.specs.Supplying.{HasGiven}
 use Rattle.saber_engine.proofs.Counts.{none_same, few_blocks, next_count}
+use Rattle.saber_engine.proofs.FirstRows.{given_first}
 use Rattle.saber_engine.proofs.Passed.{Passes, next_passed, is_placed, same_with, kept_on, counted_on}
 
 pub if_some : {A : Type 0} (P : A → Type 0) (o : Option A) (x : A) → o ≡ Some x → IfSome o P → P x
@@ -60,14 +61,19 @@ module _ {O : Type 0} (plan : O → Tree) (s : Sizes) (had left has : Lefts) (be
       let to : CutTo (cuts.Block b) q s had has new (input_of told) = subst (λ z. CutTo z q s had has new (input_of told)) e (called.on q s had (input_of told) h.cuts) in
       let next : IsNextBlock q s (input_of told) c = next_passed q s (input_of told) k b c l p (h.kept open_still) (h.placed open_still) to.0 in
       let number : c.number ≡ d = next.number ∙ sym h.cuts.count ∙ sym h.count in
-      let is = blocks_are_supplied plan told s c h.size next (is_placed q s (input_of told) k b c l p (h.kept open_still) (h.placed open_still) to.0) in
+      let placed = is_placed q s (input_of told) k b c l p (h.kept open_still) (h.placed open_still) to.0 in
+      let same_input = same_with q s (input_of told) k b c l p (h.kept open_still) (h.placed open_still) to.0 in
+      let taken : Cuts q s had has new (input_of (with_block told c)) = subst (Cuts q s had has new) same_input to.1 in
+      let count : d + 1 ≡ new.number = sym (to.1.count ∙ ap (task_count s.task) same_input ∙ next_count q s (input_of told) c next ∙ ap (λ t. t + 1) number) in
+      let is = blocks_are_supplied plan told s c h.size next placed (given_first plan s had has new (with_block told c) (c.number + 1) taken h.size (ap (λ t. t + 1) number ∙ count) h.all) in
       let same : now ≡ before = called.good (λ side f. block_not_end b (ReadFault side) (sym e ∙ f)) ∙ same_before in (
         subst (λ t. IsBlockOf plan (with_block told c) t c) number is.block,
         subst (λ t. IsTold plan (with_block told c) (t + 1)) number is.told_is,
         record {
-          cuts = subst (Cuts q s had has new) (same_with q s (input_of told) k b c l p (h.kept open_still) (h.placed open_still) to.0) to.1;
+          cuts = taken;
           size = h.size;
-          count = sym (to.1.count ∙ ap (task_count s.task) (same_with q s (input_of told) k b c l p (h.kept open_still) (h.placed open_still) to.0) ∙ next_count q s (input_of told) c next ∙ ap (λ t. t + 1) number);
+          all = h.all;
+          count = count;
           kept = λ _. kept_on q s (input_of told) k b c l p (h.kept open_still) (h.placed open_still) to.0;
           placed = λ _. counted_on q s (input_of told) k b c l p (h.kept open_still) (h.placed open_still) to.0;
           ended = λ x f. absurd (none_some x (sym open_still ∙ f));
@@ -91,6 +97,7 @@ module _ {O : Type 0} (plan : O → Tree) (s : Sizes) (had left has : Lefts) (be
       record {
         cuts = taken.1;
         size = h.size;
+        all = h.all;
         count = h.count ∙ h.cuts.count ∙ sym taken.1.count;
         kept = λ f. absurd (none_some NoMemory (sym f));
         placed = λ f. absurd (none_some NoMemory (sym f));
@@ -112,6 +119,7 @@ module _ {O : Type 0} (plan : O → Tree) (s : Sizes) (had left has : Lefts) (be
       record {
         cuts = to.1;
         size = h.size;
+        all = h.all;
         count = h.count ∙ h.cuts.count ∙ sym to.1.count;
         kept = λ f. absurd (none_some e (sym f));
         placed = λ f. absurd (none_some e (sym f));

@@ -40,12 +40,14 @@ pub record IsCounted (end : Option End) (before now : ℕ) : Type 0 where
   pub good : ((side : Side) → end ≢ Some (ReadFault side)) → now ≡ before
   pub cause : (side : Side) → end ≡ Some (ReadFault side) → Rose before now
 
--- Of a feed with such a count when the run began, so many blocks were given, and the data have their rows. As long as more may come, the last
--- of them are kept, if any are, and they are counted by their key lists. Once the blocks ended, the cutter tells their end, and until then the feed was not found cut off.
+-- Of a feed with such a count when the run began, so many blocks were given, and the data have their rows. Which rows come in all isn't known. As
+-- long as more may come, the last of those given are kept, if any are, and they are counted by their key lists. Once the blocks ended, the cutter
+-- tells their end, and until then the feed was not found cut off.
 pub record HasFed {O : Type 0} (plan : O → Tree) (s : Sizes) (before : ℕ) (v : FeedView) (c : FedCutter) (k : Keeper) (end : Option End)
     (told : RunData O) (d : ℕ) : Type 0 where
   pub cuts : CutsFed (plan told.operator) s v.taken v.waiting v.mark c (input_of told)
   pub size : told.size ≡ s.task
+  pub all : told.all ≡ None
   pub count : d ≡ task_count s.task (input_of told)
   pub kept : end ≡ None → KeepsLast k told.rows
   pub placed : end ≡ None → CountsRows k (plan told.operator) told.rows

@@ -1,5 +1,6 @@
 -- Several queries of one input: what each begins with, and how each ended.
 use Rattle.std.specs.Prelude.{◌≡◌, ℕ, List, [], ◌∷◌, length, true, Option, None}
+use Rattle.saber_plan.specs.declared.rows.Row.{Row}
 use Rattle.saber_plan.specs.declared.rows.Side.TheVariants.{Left}
 use Rattle.saber_plan.specs.Checked.{IsChecked, columns_on}
 use Rattle.saber_plan.specs.Inputs.{Input}
@@ -46,10 +47,10 @@ module _ {O S K : Type 0} (plan : O → Tree) (contents : S → Kept) (taken : O
     pub runs : m.stage.state ≡ Running
     pub keeps : BeginsRuns plan contents taken written faults writes op sink m.stage
 
-module _ {O S K : Type 0} (size : ℕ) (written : K → Option (List ℕ)) (faults writes : K → ℕ) where
+module _ {O S K : Type 0} (size : ℕ) (all : O → Option (List Row)) (written : K → Option (List ℕ)) (faults writes : K → ℕ) where
   -- the data of one before a block is filled, and those of all
   abbrev pub base_of : O → Member (Stage S K) → RunData O
-  base_of op m = first_told op size (written m.stage.sink) (faults m.stage.sink) (writes m.stage.sink)
+  base_of op m = first_told op size (written m.stage.sink) (faults m.stage.sink) (writes m.stage.sink) (all op)
 
   abbrev pub bases : List O → List (Member (Stage S K)) → List (RunData O)
   bases [] ms = []

@@ -1,5 +1,6 @@
 -- What was given of a run's inputs, block after block.
 use Rattle.std.specs.Prelude.{◌≡◌, ◌≢◌, ℕ, List, [], Option, Some, None, false}
+use Rattle.saber_plan.specs.declared.rows.Row.{Row}
 use Rattle.saber_plan.specs.declared.rows.Side.{Side}
 use Rattle.saber_plan.specs.declared.sizes.Sizes.{Sizes}
 use Rattle.saber_plan.specs.Trees.{Tree}
@@ -16,6 +17,7 @@ use Rattle.saber_dispatch.specs.Cutting.{Cuts, end_of}
 use Rattle.saber_dispatch.specs.Keeping.{KeepsLast, CountsRows}
 use Rattle.saber_crew.specs.declared.supply.Supplied.{Supplied}
 use Rattle.saber_crew.specs.Supplies.{Gives}
+use Rattle.saber_engine.specs.Sources.{rows_left}
 
 -- the counts of faults since the run began, by how the blocks ended: where a side can't be read its count rose, and else all are as they were
 pub record AreCounted (end : Option End) (before now : List ℕ) : Type 0 where
@@ -23,12 +25,14 @@ pub record AreCounted (end : Option End) (before now : List ℕ) : Type 0 where
   pub good : ((side : Side) → end ≢ Some (ReadFault side)) → now ≡ before
   pub cause : (side : Side) → end ≡ Some (ReadFault side) → RoseAt side before now
 
--- Of inputs that had so much left and such counts, so many blocks were given, and the data have their rows. As long as more may come, the last
--- of them are kept, if any are, and they are counted by their key lists. Once the blocks ended, the cutter tells their end, and until then no read had failed.
+-- Of inputs that had so much left and such counts, so many blocks were given, and the data have their rows. Where the inputs tell what they had,
+-- the data have all rows of that too. As long as more may come, the last of those given are kept, if any are, and they are counted by their key
+-- lists. Once the blocks ended, the cutter tells their end, and until then no read had failed.
 pub record HasGiven {O : Type 0} (plan : O → Tree) (s : Sizes) (had has : Lefts) (before now : List ℕ) (c : Cutter) (k : Keeper) (end : Option End)
     (told : RunData O) (d : ℕ) : Type 0 where
   pub cuts : Cuts (plan told.operator) s had has c (input_of told)
   pub size : told.size ≡ s.task
+  pub all : told.all ≡ rows_left plan s had told.operator
   pub count : d ≡ c.number
   pub kept : end ≡ None → KeepsLast k told.rows
   pub placed : end ≡ None → CountsRows k (plan told.operator) told.rows
@@ -37,13 +41,14 @@ pub record HasGiven {O : Type 0} (plan : O → Tree) (s : Sizes) (had has : Left
   pub counted : AreCounted end before now
 
 -- the data before a block is filled
-abbrev pub first_told : {O : Type 0} → O → ℕ → Option (List ℕ) → ℕ → ℕ → RunData O
-first_told operator size written faults writes = record {
+abbrev pub first_told : {O : Type 0} → O → ℕ → Option (List ℕ) → ℕ → ℕ → Option (List Row) → RunData O
+first_told operator size written faults writes all = record {
   operator = operator;
   size = size;
   written = written;
   faults = faults;
   writes = writes;
+  all = all;
   rows = [];
   ended = false;
 }

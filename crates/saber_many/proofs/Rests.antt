@@ -23,7 +23,7 @@ use Rattle.saber_assembly.specs.declared.stage.Stage.{Stage}
 use Rattle.saber_assembly.specs.declared.work.RunData.{RunData}
 use Rattle.saber_assembly.specs.Stages.{stage_view}
 use Rattle.saber_assembly.specs.Works.{input_of, first_tasks, first_needed, IsTold, IsBlockOf, IsPieceOf, IsStageOf}
-use Rattle.saber_assembly.specs.WorkLaws.{needed_rises, tasks_whole}
+use Rattle.saber_assembly.specs.WorkLaws.{first_rows, needed_rises, tasks_whole}
 use Rattle.saber_workers.specs.Free.{IsToDo, IsHandedIn, IsTaken, HasOut}
 use Rattle.saber_workers.proofs.FreeTurns.{AtRest, IsUnderWay, runs_out, stops_out, all_under_way}
 use Rattle.saber_workers.proofs.FreeTurns as turns
@@ -210,6 +210,7 @@ module _ {O P S K : Type 0} (plan : O → Tree) (is_of : O → P → Input → �
             stops = m.2.1;
             halts = m.3;
             out = m.2.2;
+            of_input = λ i low. first_rows plan t b.filled i (at_all _ b.told j t sh.shape.told at).0 low;
             blocks = blocks;
             tasks = tasks;
             cells = λ v low high. cell rest.halted v (all_under_way ToldOf (all_upto first_tasks) (each_first (first_needed plan)) RowsOf PiecesOf StagesOf size s b sh rest v low high);

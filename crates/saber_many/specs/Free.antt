@@ -18,7 +18,7 @@ use Rattle.saber_ring.specs.Laws.{TableOf, IsTable, IsWithOne}
 use Rattle.saber_assembly.specs.declared.stage.Stage.{Stage}
 use Rattle.saber_assembly.specs.declared.work.RunData.{RunData}
 use Rattle.saber_assembly.specs.Stages.{stage_view}
-use Rattle.saber_assembly.specs.Works.{input_of, first_tasks, first_needed, IsTold, IsBlockOf, IsPieceOf, IsStageOf}
+use Rattle.saber_assembly.specs.Works.{input_of, first_tasks, first_needed, HasFirstRows, IsTold, IsBlockOf, IsPieceOf, IsStageOf}
 use Rattle.saber_workers.specs.Free.{HasRows, IsHandedIn, IsToDo, IsTaken, HasOut}
 use Rattle.saber_many.specs.declared.member.Member.{Member}
 use Rattle.saber_many.specs.Sharing.{AreTold, AreRows, ArePieces, AreStages}
@@ -78,8 +78,9 @@ module _ {O P S K : Type 0} (plan : O → Tree) (is_of : O → P → Input → �
 
       -- With k tasks assembled: of the stages at home this is that of query j. While it goes on it runs, with k tasks behind it; else it stopped
       -- at one of these tasks, or, on a ring that is halted, where all have stopped, maybe at the next one. The text of the tasks behind it is
-      -- out. The rows of each task that isn't assembled are whole. Each such task is still to do, or was handed in, and then its piece, or the
-      -- mark, is at home; where the ring is halted the first one was taken.
+      -- out. The rows of the first tasks filled are those of the input's first tasks, where its rows are known. The rows of each task that isn't
+      -- assembled are whole. Each such task is still to do, or was handed in, and then its piece, or the mark, is at home; where the ring is
+      -- halted the first one was taken.
       pub record IsOut (k : ℕ) (halted : Bool) (stages : Vec (Member (Stage S K)) Global) : Type 0 where
         pub member : Member (Stage S K)
         pub in_place : get_elem? stages.items j ≡ some member
@@ -87,6 +88,7 @@ module _ {O P S K : Type 0} (plan : O → Tree) (is_of : O → P → Input → �
         pub stops : member.goes ≡ false → (member.stage.state ≢ Running) × (member.stage.k + 1 ≤ k + extra halted)
         pub halts : halted ≡ true → member.goes ≡ false
         pub out : HasOut plan contents written faults writes told member.stage.k member.stage
+        pub of_input : (i : ℕ) → i ≤ b.filled → HasFirstRows (first_tasks told i) i
         pub blocks : (u : ℕ) → free q n r k ≤ u → u < b.filled → AreOwnWhole u
         pub tasks : (t u : ℕ) → k ≤ t → t < b.filled → free q n r t ≤ u → u ≤ t → AreOwnWhole u
         pub cells : (t : ℕ) → k ≤ t → t < b.filled → IsToDo size s.words s.homes t ⊎ (IsHandedIn size s.words s.homes t (IsOwnPiece t) ⊎ ((t ≡ k) × (halted ≡ true) × IsTaken size s.words s.homes t))

@@ -18,7 +18,7 @@ use Rattle.saber_plan.specs.declared.stages.StageState.TheVariants.{Running}
 use Rattle.saber_assembly.specs.declared.work.RunData.{RunData}
 use Rattle.saber_assembly.specs.Stages.{stage_view}
 use Rattle.saber_assembly.specs.Works.{input_of, first_tasks, first_needed, IsTold, IsBlockOf, IsPieceOf, IsStageOf}
-use Rattle.saber_assembly.specs.WorkLaws.{needed_rises, tasks_whole}
+use Rattle.saber_assembly.specs.WorkLaws.{first_rows, needed_rises, tasks_whole}
 use Rattle.saber_workers.specs.Free.{IsToDo, IsHandedIn, IsTaken, HasOut, QueryTable, KeepsRule, AreWhole, FirstAreOut}
 use Rattle.saber_workers.proofs.FreeTurns.{AtRest, IsUnderWay, runs_out, stops_out}
 use Rattle.saber_workers.proofs.FreeTurns as turns
@@ -93,6 +93,7 @@ module _ {O P S K : Type 0} (plan : O → Tree) (is_of : O → P → Input → �
         stage = rest.stage;
         at_home = rest.at_home;
         out = has_out rest.halted rest.stage rest.stage_is;
+        of_input = λ j low. first_rows plan b.told b.filled j sh.shape.told low;
         runs = λ run. rest.word ∙ word_runs rest.halted rest.stage rest.stage_is run;
         stops = λ stop. rest.word ∙ word_stops rest.halted rest.stage rest.stage_is stop;
         blocks = blocks;

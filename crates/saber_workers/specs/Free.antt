@@ -21,7 +21,7 @@ use Rattle.saber_plan.specs.declared.stages.StageState.TheVariants.{Running}
 use Rattle.saber_assembly.specs.declared.work.RunData.{RunData}
 use Rattle.saber_assembly.specs.Stages.{stage_view}
 use Rattle.saber_plan.specs.Stages.{After}
-use Rattle.saber_assembly.specs.Works.{input_of, first_tasks, start_of, first_needed, IsTold, IsBlockOf, IsPieceOf, IsStageOf}
+use Rattle.saber_assembly.specs.Works.{input_of, first_tasks, start_of, first_needed, HasFirstRows, IsTold, IsBlockOf, IsPieceOf, IsStageOf}
 
 -- ---- blocks and cells, by their words and slots
 
@@ -105,8 +105,9 @@ module _ {O P S K : Type 0} (plan : O → Tree) (is_of : O → P → Input → �
         HasRows size s.words s.homes u (IsBlock q n r u)
         ⊎ IsWithOne (IsTold plan) first_tasks (first_needed plan) (IsBlockOf plan) (IsPieceOf plan is_of) (IsStageOf plan (stage_view contents written faults writes) taken) size s b u
 
-    -- With k tasks assembled, of n rows each: the stage is at home, and the text of the first k tasks' rows is out. The rows of each task that
-    -- isn't assembled are whole: each block from the first that task k needs to the last one filled is at home, with the rows of its own task,
+    -- With k tasks assembled, of n rows each: the stage is at home, and the text of the first k tasks' rows is out. The rows of the first tasks
+    -- filled, of those assembled too, are those of the input's first tasks, where its rows are known. The rows of each task that isn't assembled
+    -- are whole: each block from the first that task k needs to the last one filled is at home, with the rows of its own task,
     -- or with one reader. Each such task is still to do, or was handed in, and then its piece, or the mark, is at home; where the stage stopped
     -- the first one was taken.
     pub record FirstAreOut (k : ℕ) : Type 0 where
@@ -114,6 +115,7 @@ module _ {O P S K : Type 0} (plan : O → Tree) (is_of : O → P → Input → �
       pub stage : Stage S K
       pub at_home : get_elem? s.homes 0 ≡ some (some (slot.Stage stage))
       pub out : HasOut plan contents written faults writes b.told k stage
+      pub of_input : (j : ℕ) → j ≤ b.filled → HasFirstRows (first_tasks b.told j) j
       pub runs : stage.state ≡ Running → slice_index s.words 0 ≡ 2 * k
       pub stops : stage.state ≢ Running → slice_index s.words 0 ≡ 2 * k + 2 ^ 62
       pub blocks : (u : ℕ) → free q n r k ≤ u → u < b.filled → AreWhole u

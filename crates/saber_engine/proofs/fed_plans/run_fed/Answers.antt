@@ -38,9 +38,9 @@ run-ran-requires-clause-begins g c spans live =
     let nothing : CutsNothingFed (plan op) s cutter = subst (λ z. CutsNothingFed z s cutter) (sym c.requires.plan) c.in-Ok.ensures.cuts in
     let counts : CountsRows keeper (plan op) [] = subst (λ z. CountsRows keeper z []) (sym c.requires.plan) c.in-Ok.ensures.counted in
     let fits : Fits (frame (plan op)) = subst (λ z. Fits (frame z)) (sym c.requires.plan) (checked_fit (tree_of c.args.plan.now) c.ring_size-ring.ensures.checked) in
-    let is : HasFed plan s v.faults v cutter keeper None (first_told op s.task (wrote stage.sink) (failed stage.sink) (writes stage.sink)) 0 = fed_none plan op s v (wrote stage.sink) (failed stage.sink) (writes stage.sink) cutter keeper nothing c.in-Ok.ensures.goes c.requires.fresh c.requires.sizes.task.0 c.in-Ok.ensures.kept counts in
-    begins plan g.O.Operator.contents g.O.Operator.has_taken wrote failed writes op s.task stage fits c.requires.sizes.task.0 c.args.sink e.sink e.none e.runs e.keeps (HasFed plan g.J.BeginsFed.sizes g.J.BeginsFed.faults v cutter keeper end)
-    (transport (λ i. HasFed plan (sym b.0 i) (sym b.1 i) v cutter keeper (sym c.in-Ok.ensures.end i) (first_told op s.task (wrote stage.sink) (failed stage.sink) (writes stage.sink)) 0) is)
+    let is : HasFed plan s v.faults v cutter keeper None (first_told op s.task (wrote stage.sink) (failed stage.sink) (writes stage.sink) None) 0 = fed_none plan op s v (wrote stage.sink) (failed stage.sink) (writes stage.sink) cutter keeper nothing c.in-Ok.ensures.goes c.requires.fresh c.requires.sizes.task.0 c.in-Ok.ensures.kept counts in
+    begins plan g.O.Operator.contents g.O.Operator.has_taken wrote failed writes op s.task None stage fits c.requires.sizes.task.0 c.args.sink e.sink e.none e.runs e.keeps (HasFed plan g.J.BeginsFed.sizes g.J.BeginsFed.faults v cutter keeper end)
+    (transport (λ i. HasFed plan (sym b.0 i) (sym b.1 i) v cutter keeper (sym c.in-Ok.ensures.end i) (first_told op s.task (wrote stage.sink) (failed stage.sink) (writes stage.sink) None) 0) is)
 
 pub returns-in-Ok-ran : goal.returns-in-Ok-ran
 returns-in-Ok-ran g c =
@@ -66,8 +66,8 @@ returns-in-Ok-ran g c =
     let b = c.requires.begins in
     let x = c.ended-in-Ok-ran.ensures in
     let ends = x.end ∙ ap (end_of stage.state fed.over) c.let_go-end.ensures in
-    let r : RunsTo (IsTold plan) first_tasks (IsStageOf plan (stage_view g.O.Operator.contents wrote failed writes) g.O.Operator.has_taken) (HasFed plan s before v cutter keeper end) (IsSome end) (first_told op s.task w f times) stage fed =
-    transport (λ i. RunsTo (IsTold plan) first_tasks (IsStageOf plan (stage_view g.O.Operator.contents wrote failed writes) g.O.Operator.has_taken) (HasFed plan (b.0 i) (b.1 i) v cutter keeper end) (IsSome end) (first_told op s.task (wrote (e.sink i)) (failed (e.sink i)) (writes (e.sink i))) stage fed) c.in-Ok-ran.ensures.ended in
+    let r : RunsTo (IsTold plan) first_tasks (IsStageOf plan (stage_view g.O.Operator.contents wrote failed writes) g.O.Operator.has_taken) (HasFed plan s before v cutter keeper end) (IsSome end) (first_told op s.task w f times None) stage fed =
+    transport (λ i. RunsTo (IsTold plan) first_tasks (IsStageOf plan (stage_view g.O.Operator.contents wrote failed writes) g.O.Operator.has_taken) (HasFed plan (b.0 i) (b.1 i) v cutter keeper end) (IsSome end) (first_told op s.task (wrote (e.sink i)) (failed (e.sink i)) (writes (e.sink i)) None) stage fed) c.in-Ok-ran.ensures.ended in
     let over = fed_done plan g.O.Operator.contents g.O.Operator.has_taken wrote failed writes op s c.requires.sizes.task.0 w f times v before cutter keeper end stage fed r in
     let d : FedDone q s v before w f times c.ended-in-Ok-ran.result.end c.ended-in-Ok-ran.result.tasks (wrote c.ended-in-Ok-ran.result.sink) (failed c.ended-in-Ok-ran.result.sink) (writes c.ended-in-Ok-ran.result.sink) =
     transport (λ i. FedDone (c.requires.plan i) s v before w f times (sym ends i) (sym x.tasks i) (wrote (sym x.sink i)) (failed (sym x.sink i)) (writes (sym x.sink i))) over in

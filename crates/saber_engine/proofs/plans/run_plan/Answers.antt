@@ -16,6 +16,7 @@ use Rattle.saber_dispatch.specs.Readings.{Suits}
 use Rattle.saber_dispatch.specs.Cutting.{CutsNothing, fresh}
 use Rattle.saber_dispatch.specs.Keeping.{CountsRows}
 use Rattle.saber_dispatch.specs.Leaving.{GaveAll}
+use Rattle.saber_engine.specs.Sources.{rows_left}
 use Rattle.saber_engine.specs.Supplying.{HasGiven, first_told}
 use Rattle.saber_engine.proofs.Starting.{given_none, begins}
 use Rattle.saber_engine.proofs.Results.{Done, done, done_nothing, suits, if_told, took, took_none}
@@ -43,9 +44,9 @@ run-ran-requires-clause-begins g c spans live =
     let many : Suits (fresh (plan op) (limits_of s)) left = subst (λ z. Suits (fresh z (limits_of s)) left) (sym c.requires.plan) (suits q (limits_of s) g.S.Source.left c.args.inputs.now c.requires.inputs) in
     let counts : CountsRows keeper (plan op) [] = subst (λ z. CountsRows keeper z []) (sym c.requires.plan) c.in-Ok.ensures.counted in
     let fits : Fits (frame (plan op)) = subst (λ z. Fits (frame z)) (sym c.requires.plan) (checked_fit q c.ring_size-ring.ensures.checked) in
-    let is : HasGiven plan s left left faults faults cutter keeper None (first_told op s.task (wrote stage.sink) (failed stage.sink) (writes stage.sink)) 0 = given_none plan op s left faults (wrote stage.sink) (failed stage.sink) (writes stage.sink) cutter keeper nothing c.in-Ok.ensures.goes many c.in-Ok.ensures.kept counts in
-    begins plan g.O.Operator.contents g.O.Operator.has_taken wrote failed writes op s.task stage fits c.requires.sizes.task.0 c.args.sink e.sink e.none e.runs e.keeps (HasGiven plan g.J.Begins.sizes g.J.Begins.lefts left g.J.Begins.faults faults cutter keeper end)
-    (transport (λ i. HasGiven plan (sym b.0 i) (sym b.1 i) left (sym b.2 i) faults cutter keeper (sym c.in-Ok.ensures.end i) (first_told op s.task (wrote stage.sink) (failed stage.sink) (writes stage.sink)) 0) is)
+    let is : HasGiven plan s left left faults faults cutter keeper None (first_told op s.task (wrote stage.sink) (failed stage.sink) (writes stage.sink) (rows_left plan s left op)) 0 = given_none plan op s left faults (wrote stage.sink) (failed stage.sink) (writes stage.sink) cutter keeper nothing c.in-Ok.ensures.goes many c.in-Ok.ensures.kept counts in
+    begins plan g.O.Operator.contents g.O.Operator.has_taken wrote failed writes op s.task (rows_left plan g.J.Begins.sizes g.J.Begins.lefts op) stage fits c.requires.sizes.task.0 c.args.sink e.sink e.none e.runs e.keeps (HasGiven plan g.J.Begins.sizes g.J.Begins.lefts left g.J.Begins.faults faults cutter keeper end)
+    (transport (λ i. HasGiven plan (sym b.0 i) (sym b.1 i) left (sym b.2 i) faults cutter keeper (sym c.in-Ok.ensures.end i) (first_told op s.task (wrote stage.sink) (failed stage.sink) (writes stage.sink) (rows_left plan (sym b.0 i) (sym b.1 i) op)) 0) is)
 
 pub returns-in-Ok-ran : goal.returns-in-Ok-ran
 returns-in-Ok-ran g c =
@@ -72,8 +73,8 @@ returns-in-Ok-ran g c =
     let b = c.requires.begins in
     let x = c.ended-in-Ok-ran.ensures in
     let ends = x.end ∙ ap (end_of stage.state fed.over) c.let_go-end.ensures in
-    let r : RunsTo (IsTold plan) first_tasks (IsStageOf plan (stage_view g.O.Operator.contents wrote failed writes) g.O.Operator.has_taken) (HasGiven plan s had has before now cutter keeper end) (IsSome end) (first_told op s.task w f times) stage fed =
-    transport (λ i. RunsTo (IsTold plan) first_tasks (IsStageOf plan (stage_view g.O.Operator.contents wrote failed writes) g.O.Operator.has_taken) (HasGiven plan (b.0 i) (b.1 i) has (b.2 i) now cutter keeper end) (IsSome end) (first_told op s.task (wrote (e.sink i)) (failed (e.sink i)) (writes (e.sink i))) stage fed) c.in-Ok-ran.ensures.ended in
+    let r : RunsTo (IsTold plan) first_tasks (IsStageOf plan (stage_view g.O.Operator.contents wrote failed writes) g.O.Operator.has_taken) (HasGiven plan s had has before now cutter keeper end) (IsSome end) (first_told op s.task w f times (rows_left plan s had op)) stage fed =
+    transport (λ i. RunsTo (IsTold plan) first_tasks (IsStageOf plan (stage_view g.O.Operator.contents wrote failed writes) g.O.Operator.has_taken) (HasGiven plan (b.0 i) (b.1 i) has (b.2 i) now cutter keeper end) (IsSome end) (first_told op s.task (wrote (e.sink i)) (failed (e.sink i)) (writes (e.sink i)) (rows_left plan (b.0 i) (b.1 i) op)) stage fed) c.in-Ok-ran.ensures.ended in
     let over = done plan g.O.Operator.contents g.O.Operator.has_taken wrote failed writes op s w f times had has before now cutter keeper end stage fed r in
     let d : Done q s had has before now w f times c.ended-in-Ok-ran.result.end c.ended-in-Ok-ran.result.tasks (wrote c.ended-in-Ok-ran.result.sink) (failed c.ended-in-Ok-ran.result.sink) (writes c.ended-in-Ok-ran.result.sink) =
     transport (λ i. Done (c.requires.plan i) s had has before now w f times (sym ends i) (sym x.tasks i) (wrote (sym x.sink i)) (failed (sym x.sink i)) (writes (sym x.sink i))) over in
