@@ -215,6 +215,11 @@ memory_told d old = record {
     not_failed : NoMemory ≡ WriteFault → ⊥
     not_failed e = cc
 
+-- so it is of a call that came to that
+pub lacked_told : (d : AskedDemo) (o : Outcome) (tasks : ℕ) (old new : Option (List ℕ)) → o ≡ NoMemory → tasks ≡ 0 → new ≡ old → TellsRun d o tasks old new
+lacked_told d o tasks old new e t n =
+    subst (λ x. TellsRun d x tasks old new) (sym e) (subst (λ x. TellsRun d NoMemory x old new) (sym t) (subst (TellsRun d NoMemory 0 old) (sym n) (memory_told d old)))
+
 -- words that were not read
 pub unread_told : (ws : List (List ℕ)) (d : AskedDemo) (f : WordsFault) (old : Option (List ℕ)) → (f ≡ fault.Usage → command_of ws ≡ None) → command_of ws ≡ Some (demo d) → TellsRun d (unread f) 0 old old
 unread_told ws d fault.NoMemory old h is = memory_told d old

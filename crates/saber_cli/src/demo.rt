@@ -114,6 +114,7 @@ fn lacking<K>(sink: K) -> Ran<K>
 }
 
 // Writes the summary of an answer that is whole.
+#[tactic(auto, using(crate::proofs::DemoLemmas::lacked_told))]
 fn tell<K: Sink>(alloc: Global, command: &Demo, answer: Answer, sink: K) -> Ran<K>
     requires answer { IsTrue answer.whole → IsAnswer (asked_demo command.now) answer.text.written answer.tasks }
     ensures told { TellsRun (asked_demo command.now) result.outcome result.tasks (K.written sink) (K.written result.sink) }
