@@ -7,3 +7,4 @@ pub mod Rowing
 pub mod Taking
 pub mod Parted
 pub mod Stored
+pub mod Kept

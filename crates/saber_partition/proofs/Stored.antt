@@ -1,17 +1,17 @@
 -- The map of key lists as the definitions see it.
-use Rattle.std.proofs.Common.{◌≡◌, List, [], map, Option, Some, option_map, ℤ, sym, ◌∙◌, ap, Global}
+use Rattle.std.proofs.Common.{◌≡◌, List, [], map, ℤ, sym, ◌∙◌, Global}
 use Rattle.std.proofs.lemmas.List.{nil_from_length}
 use Rattle.std.specs.Vec.Iter.{into_iter_len, into_iter_items}
 use Rattle.std.specs.declared.vec.IntoIter.{IntoIter}
-use Rattle.std.specs.Map.{lookup, set_value, keys_of}
+use Rattle.std.specs.Map.{keys_of}
 use Rattle.std.specs.List.Sorted.{IsStrictlySortedBy}
-use Rattle.std.specs.BTreeMap.{insert_entry, is_at}
-use Rattle.std.specs.FinMap.{get, insert, entries}
+use Rattle.std.specs.BTreeMap.{insert_entry}
+use Rattle.std.specs.FinMap.{insert, entries}
 use Rattle.arrayvec.specs.ArrayVec.{ArrayVec}
 use Rattle.saber_plan.specs.Answers.{key_cmp}
 use Rattle.saber_plan.specs.Facts.Parts.{total, exact}
 use Rattle.saber_plan.specs.Facts.Maps.{entries-from_rising}
-use Rattle.saber_plan.specs.Facts.Trees.{written, inserted, looked_up, sorted_seen}
+use Rattle.saber_plan.specs.Facts.Trees.{inserted, sorted_seen}
 use Rattle.saber_partition.specs.declared.keyed.Keyed.{Keyed}
 use Rattle.saber_partition.specs.Lists.{Own}
 use Rattle.saber_partition.specs.Stores.{own_of, lists_of}
@@ -22,13 +22,6 @@ own_list v = v.items
 -- the entries as they are seen
 abbrev pub seen_list : List (ArrayVec ℤ × Keyed) → List (List ℤ × Own)
 seen_list es = map (λ e. (e.0.items, own_of e.1)) es
-
-pub list_at : (k : ArrayVec ℤ) (es : List (ArrayVec ℤ × Keyed)) (o : Option Keyed) → lookup (is_at (λ (a : ArrayVec ℤ). key_cmp k.items a.items)) es ≡ o → get (lists_of es) k.items ≡ option_map own_of o
-list_at k es o f = sym (looked_up key_cmp own_list own_of total exact k.items es) ∙ ap (option_map own_of) f
-
-pub list_written : (k : ArrayVec ℤ) (w v : Keyed) (es : List (ArrayVec ℤ × Keyed)) → lookup (is_at (λ (a : ArrayVec ℤ). key_cmp k.items a.items)) es ≡ Some v
-    → lists_of (set_value (is_at (λ (a : ArrayVec ℤ). key_cmp k.items a.items)) es w) ≡ insert (lists_of es) k.items (own_of w)
-list_written k w v es f = written key_cmp own_list own_of total exact k.items w v es f
 
 pub list_inserted : (k : ArrayVec ℤ) (v : Keyed) (es : List (ArrayVec ℤ × Keyed)) → lists_of (insert_entry (λ (a b : ArrayVec ℤ). key_cmp a.items b.items) es k v) ≡ insert (lists_of es) k.items (own_of v)
 list_inserted k v es = inserted key_cmp own_list own_of total exact k v es

@@ -14,9 +14,10 @@
 //!   rows (`Keeps`, `TakenAll`). A row prints the window that it closes, if it closes one; the end
 //!   prints what is begun, key by key. A row costs two merges, and one more where it closes a
 //!   window, however many windows have it.
-//! - Not claimed: time and memory. The parts of a task's rows lie in one list, and the stage looks
-//!   each row's key up; once a key's windows are open, its rows take no memory of their own, but
-//!   for groups that are new among many.
+//! - Not claimed: time and memory. The parts of a task's rows lie in one list. The stage finds what
+//!   it keeps of a row's key by the key's number (`Numbered` of `saber_places`). Once a key's
+//!   windows are open, its rows take no memory of their own, but for groups that are new among
+//!   many. At the end all is put in the order of the keys.
 //! - Limits: one to eight columns of PARTITION BY; no stream word. What is kept of a key stays to
 //!   the end of the input.
 #![tactic(auto)]

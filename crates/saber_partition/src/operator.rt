@@ -4,16 +4,16 @@ ghost use Rattle.saber_plan.specs.Texts.{Behind};
 ghost use Rattle.saber_plan.specs.Trees.{tree_of};
 ghost use Rattle.saber_plan.specs.Inputs.{Input};
 ghost use Rattle.saber_partition.specs.Pieces.{Follow, Followed};
-ghost use Rattle.saber_partition.specs.Stores.{lists_of, made_of};
+ghost use Rattle.saber_partition.specs.Stores.{kept_lists, made_of, IsLong};
 
 use crate::lists::{ListStore, take_end, take_rows};
 use crate::partition::Partition;
 use crate::pieces::ListPiece;
 use saber_fragment::{Block, Operator};
 use saber_partial::Steps;
+use saber_places::Numbered;
 use saber_plan::NoMemory;
 use std::alloc::Global;
-use std::collections::BTreeMap;
 use std::marker::Brand;
 use std::sync::ledger::{Blank, Ledger};
 
@@ -27,12 +27,14 @@ impl Partition<'_> {
         out: &mut Vec<u8>,
         blank: Blank,
     ) -> Result<(), NoMemory>
-        requires follow { (r : Input) × (x : ℕ) × (y : ℕ) × Follow (tree_of self.now) r x y (map (made_of piece.parts) piece.rows.items) piece.ended (lists_of store.old.lists.entries) }
+        requires follow { (r : Input) × (x : ℕ) × (y : ℕ) × Follow (tree_of self.now) r x y (map (made_of piece.parts) piece.rows.items) piece.ended (kept_lists store.old) }
+        requires long { IsLong store.old }
         requires name { blank.name ≡ L.name }
         requires parts { blank.parts ≡ L.parts }
         requires some { 0 < blank.parts }
-        ensures followed { OnOk result ((r : Input) (x y : ℕ) → Follow (tree_of self.now) r x y (map (made_of piece.parts) piece.rows.items) piece.ended (lists_of store.old.lists.entries)
-            → Followed (tree_of self.now) r x y (lists_of store.new.lists.entries) out.old.items out.new.items) }
+        ensures followed { OnOk result ((r : Input) (x y : ℕ) → Follow (tree_of self.now) r x y (map (made_of piece.parts) piece.rows.items) piece.ended (kept_lists store.old)
+            → Followed (tree_of self.now) r x y (kept_lists store.new) out.old.items out.new.items) }
+        ensures long { OnOk result (IsLong store.new) }
         ensures behind { Behind out.old.items out.new.items }
     {
         let ListPiece { rows, parts, ended } = piece;
@@ -41,13 +43,13 @@ impl Partition<'_> {
             alloc,
             self.plan,
             &self.windows,
-            &mut store.lists,
+            store,
             rows,
             &parts,
             out,
             &mut steps,
         )?;
-        take_end(alloc, self.plan, &mut store.lists, ended, out, &mut steps)?;
+        take_end(alloc, self.plan, store, ended, out, &mut steps)?;
         Ok(())
     }
 }
@@ -64,17 +66,17 @@ impl Operator for Partition<'_> {
     ghost use Rattle.saber_plan.specs.Trees.{tree_of};
     ghost use Rattle.saber_partition.specs.Lists.{TakenIn, kept_in};
     ghost use Rattle.saber_partition.specs.Pieces.{HasSeen, IsOf};
-    ghost use Rattle.saber_partition.specs.Stores.{lists_of, made_of};
+    ghost use Rattle.saber_partition.specs.Stores.{kept_lists, made_of, IsLong};
 
     ghost plan = { tree_of };
 
     ghost has_seen = { λ partition draft s. HasSeen (tree_of partition) s (map (made_of draft.parts) draft.rows.items) draft.ended };
 
-    ghost contents = { λ s. kept_in (lists_of s.lists.entries) };
+    ghost contents = { λ s. kept_in (kept_lists s) };
 
-    ghost remainder = { λ s. kept_in (lists_of s.lists.entries) };
+    ghost remainder = { λ s. kept_in (kept_lists s) };
 
-    ghost has_taken = { λ partition store r. TakenIn (tree_of partition) r (lists_of store.lists.entries) };
+    ghost has_taken = { λ partition store r. TakenIn (tree_of partition) r (kept_lists store) × IsLong store };
 
     ghost is_of = { λ partition piece r x y. IsOf (tree_of partition) r x y (map (made_of piece.parts) piece.rows.items) piece.ended };
 
@@ -103,7 +105,8 @@ impl Operator for Partition<'_> {
 
     fn empty_store(&self, alloc: Global) -> ListStore {
         ListStore {
-            lists: BTreeMap::new(alloc),
+            known: Numbered::new(alloc),
+            lists: Vec::new(alloc),
         }
     }
 

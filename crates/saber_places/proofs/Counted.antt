@@ -24,11 +24,11 @@ use Rattle.saber_plan.specs.Tasks.{places_after}
 use Rattle.saber_plan.specs.Facts.Parts.{total, exact}
 use Rattle.saber_plan.specs.Facts.Maps.{equal_if}
 use Rattle.saber_places.specs.declared.places.Places.{Places}
-use Rattle.saber_places.specs.Keys.{filled_key}
-use Rattle.saber_places.specs.Counts.{Tallies, seen_tallies, count_of}
+use Rattle.saber_places.specs.Counts.{Tallies, count_of}
+use Rattle.saber_places.specs.Numbering.{by_list}
 use Rattle.saber_places.specs.Counting.{Counts, places_behind}
-use Rattle.saber_places.proofs.Filled.{filled_same}
-use Rattle.saber_places.proofs.Tallied.{counted_at, tally_at}
+use Rattle.saber_places.proofs.Numbering.{same_list}
+use Rattle.saber_places.proofs.Tallied.{counted_at, count_none}
 
 -- ---- how many rows there are
 
@@ -58,53 +58,37 @@ substream_more q k xs r =
     ∙ length-append (substream q k xs) (substream q k (r ∷ []))
     ∙ one_kept (eq_by_cmp key_cmp k (list_of q r)) r (length (substream q k xs))
 
-ties : (k : List ℤ) → eq_by_cmp key_cmp k k ≡ true
-ties k = ap is_eq (tied_itself total k)
-
-same_if : (a b : Bool) → (a ≡ true → b ≡ true) → (b ≡ true → a ≡ true) → a ≡ b
-same_if true b f g = sym (f refl)
-same_if false true f g = g refl
-same_if false false f g = refl
-
--- lists of one length tie as they are filled
-tie_filled : (k l : List ℤ) → length k ≡ length l → eq_by_cmp key_cmp (filled_key 8 k) (filled_key 8 l) ≡ eq_by_cmp key_cmp k l
-tie_filled k l h = same_if _ _
-    (λ e. let same : k ≡ l = filled_same 8 k l h (exact (filled_key 8 k) (filled_key 8 l) (equal_if _ e)) in ap (eq_by_cmp key_cmp k) (sym same) ∙ ties k)
-    (λ e. let same : k ≡ l = exact k l (equal_if _ e) in ap (λ x. eq_by_cmp key_cmp (filled_key 8 k) (filled_key 8 x)) (sym same) ∙ ties (filled_key 8 k))
-
-list_length : (q : Tree) (r : Row) → length (list_of q r) ≡ length q.partition
-list_length q r = length-map q.partition _
-
 module _ (q : Tree) (xs : List Row) (p : Places) (r : Row) (c : Counts q xs p) where
   abbrev m : Tallies
-  m = seen_tallies p.counts.entries
+  m = by_list p.known p.counts.items
 
-  module _ (at : List ℤ) (is : at ≡ filled_key 8 (key p.columns.items r.values)) where
-    key_is : at ≡ filled_key 8 (list_of q r)
-    key_is = is ∙ ap (λ cs. filled_key 8 (key cs r.values)) c.columns
+  module _ (at : List ℤ) (is : at ≡ key p.columns.items r.values) where
+    key_is : at ≡ list_of q r
+    key_is = is ∙ ap (λ cs. key cs r.values) c.columns
 
     pub stands_at : count_of m at ≡ length (substream q (list_of q r) xs)
-    stands_at = ap (count_of m) key_is ∙ c.count (list_of q r) (list_length q r)
+    stands_at = ap (count_of m) key_is ∙ c.count (list_of q r)
 
     pub is_small : length xs < 2 ^ 63 → count_of m at < 2 ^ 63
     is_small h = let few = filter_few (λ x. eq_by_cmp key_cmp (list_of q r) (list_of q x)) xs in omega (arith, few, stands_at, h)
 
-    case_of : (b : Bool) (k : List ℤ) → eq_by_cmp key_cmp k (list_of q r) ≡ b → length k ≡ length q.partition → cond b (count_of m at + 1) (count_of m (filled_key 8 k)) ≡ cond b (length (substream q k xs) + 1) (length (substream q k xs))
-    case_of true k t h = ap (λ n. n + 1) (stands_at ∙ ap (λ l. length (substream q l xs)) (sym (exact k (list_of q r) (equal_if _ t))))
-    case_of false k t h = c.count k h
+    case_of : (b : Bool) (k : List ℤ) → eq_by_cmp key_cmp k (list_of q r) ≡ b → cond b (count_of m at + 1) (count_of m k) ≡ cond b (length (substream q k xs) + 1) (length (substream q k xs))
+    case_of true k t = ap (λ n. n + 1) (stands_at ∙ ap (λ l. length (substream q l xs)) (sym (same_list k (list_of q r) t)))
+    case_of false k t = c.count k
 
-    pub counts_more : (new : Places) → new.columns.items ≡ p.columns.items → seen_tallies new.counts.entries ≡ insert m at (count_of m at + 1) → Counts q (xs ++ r ∷ []) new
-    counts_more new cs e = record {
+    pub counts_more : (new : Places) → new.columns.items ≡ p.columns.items → by_list new.known new.counts.items ≡ insert m at (count_of m at + 1) → length new.counts.items ≡ length new.known → Counts q (xs ++ r ∷ []) new
+    counts_more new cs e long = record {
       columns = cs ∙ c.columns;
       some = c.some;
       few = c.few;
       one = c.one;
       there = c.there;
-      count = λ k h.
-          ap (λ t. count_of t (filled_key 8 k)) e
-          ∙ counted_at m at (filled_key 8 k) (count_of m at + 1)
-          ∙ ap (λ b. cond b (count_of m at + 1) (count_of m (filled_key 8 k))) (ap (eq_by_cmp key_cmp (filled_key 8 k)) key_is ∙ tie_filled k (list_of q r) (h ∙ sym (list_length q r)))
-          ∙ case_of (eq_by_cmp key_cmp k (list_of q r)) k refl h
+      long = long;
+      count = λ k.
+          ap (λ t. count_of t k) e
+          ∙ counted_at m at k (count_of m at + 1)
+          ∙ ap (λ b. cond b (count_of m at + 1) (count_of m k)) (ap (eq_by_cmp key_cmp k) key_is)
+          ∙ case_of (eq_by_cmp key_cmp k (list_of q r)) k refl
           ∙ sym (substream_more q k xs r);
     }
 
@@ -120,14 +104,15 @@ one_stream (k ∷ ks) Select ss word f h = absurd f
 one_stream (k ∷ ks) Join ss word f h = absurd f
 
 -- nothing is counted yet
-pub counts_nothing : (q : Tree) (p : Places) → IsChecked q → p.columns.items ≡ q.partition → p.counts.entries ≡ [] → 1 ≤ length q.partition → Counts q [] p
-counts_nothing q p c is none some = record {
+pub counts_nothing : (q : Tree) (p : Places) → IsChecked q → p.columns.items ≡ q.partition → p.known ≡ [] → p.counts.items ≡ [] → 1 ≤ length q.partition → Counts q [] p
+counts_nothing q p c is none zeros some = record {
   columns = is;
   some = some;
   few = c.few_lists;
   one = one_stream q.partition q.shape q.streams q.word c.partition some;
   there = c.lists;
-  count = λ k h. ap (λ es. count_of (seen_tallies es) (filled_key 8 k)) none ∙ ap (λ o. unwrap_or o 0) (tally_at (filled_key 8 k) [] None refl);
+  long = ap length zeros ∙ sym (ap length none);
+  count = λ k. ap (λ ls. count_of (by_list ls p.counts.items) k) none ∙ count_none k [] p.counts.items refl;
 }
 
 pub all_few : (q : Tree) (xs : List Row) → RowsFit q no_rows xs → length xs < 2 ^ 63

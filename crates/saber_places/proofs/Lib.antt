@@ -1,3 +1,3 @@
-mod Filled
+pub mod Numbering
 mod Tallied
 mod Counted

@@ -8,8 +8,8 @@ use Rattle.saber_plan.specs.Checked.{columns_on}
 use Rattle.saber_plan.specs.Answers.{substream}
 use Rattle.saber_plan.specs.Tasks.{places_after}
 use Rattle.saber_places.specs.declared.places.Places.{Places}
-use Rattle.saber_places.specs.Keys.{filled_key}
-use Rattle.saber_places.specs.Counts.{seen_tallies, count_of}
+use Rattle.saber_places.specs.Numbering.{by_list}
+use Rattle.saber_places.specs.Counts.{count_of}
 
 -- These rows are counted: so many have each key list of the columns of PARTITION BY.
 pub record Counts (q : Tree) (xs : List Row) (p : Places) : Type 0 where
@@ -18,7 +18,8 @@ pub record Counts (q : Tree) (xs : List Row) (p : Places) : Type 0 where
   pub few : length q.partition ≤ 8
   pub one : length q.streams ≡ 1
   pub there : AllByRecursion (λ k. k < columns_on q.streams Left) q.partition
-  pub count : (k : List ℤ) → length k ≡ length q.partition → count_of (seen_tallies p.counts.entries) (filled_key 8 k) ≡ length (substream q k xs)
+  pub long : length p.counts.items ≡ length p.known
+  pub count : (k : List ℤ) → count_of (by_list p.known p.counts.items) k ≡ length (substream q k xs)
 
 -- so are they where the query has PARTITION BY; else nothing is kept
 abbrev pub AreCounted : Tree → List Row → Option Places → Type 0

@@ -1,3 +1,3 @@
-pub mod Keys
+pub mod Numbering
 pub mod Counts
 pub mod Counting

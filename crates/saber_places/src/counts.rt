@@ -1,29 +1,36 @@
-// How many rows have each key.
-ghost use Rattle.std.specs.Prelude.{◌≡◌, ◌<◌, ◌+◌, ◌^◌, IfOk, OnOk};
+// How many rows have each key list.
+ghost use Rattle.std.specs.Prelude.{◌≡◌, ◌<◌, ◌+◌, ◌^◌, length, IfOk, OnOk};
 ghost use Rattle.std.specs.FinMap.{insert};
-ghost use Rattle.saber_places.specs.Counts.{seen_tallies, count_of};
+ghost use Rattle.saber_places.specs.Counts.{count_of};
+ghost use Rattle.saber_places.specs.Numbering.{by_list};
 
+use crate::numbered::Numbered;
+use arrayvec::ArrayVec;
 use saber_plan::NoMemory;
-use std::collections::BTreeMap;
 
-/// Counts one more with this key, and answers how many there were. Memory is taken for a key that
-/// wasn't there; where it lacks, nothing is counted.
+/// Counts one more with this key list, and answers how many there were. Counts stand by the numbers
+/// of key lists. Memory is taken for a list that is new.
+#[inline]
 pub(crate) fn count_one(
-    counts: &mut BTreeMap<[i64; 8], u64>,
-    key: [i64; 8],
+    known: &mut Numbered,
+    counts: &mut Vec<u64>,
+    list: ArrayVec<i64, 8>,
 ) -> Result<u64, NoMemory>
-    requires { count_of (seen_tallies counts.old.entries) key < 2 ^ 63 }
-    ensures was { IfOk result (λ n. n ≡ count_of (seen_tallies counts.old.entries) key) }
-    ensures counted { OnOk result (seen_tallies counts.new.entries ≡ insert (seen_tallies counts.old.entries) key (count_of (seen_tallies counts.old.entries) key + 1)) }
+    requires small { count_of (by_list known.old counts.old.items) list.items < 2 ^ 63 }
+    requires long { length counts.old.items ≡ length known.old }
+    ensures was { IfOk result (λ n. n ≡ count_of (by_list known.old counts.old.items) list.items) }
+    ensures counted { OnOk result (by_list known.new counts.new.items ≡ insert (by_list known.old counts.old.items) list.items (count_of (by_list known.old counts.old.items) list.items + 1)) }
+    ensures long { OnOk result (length counts.new.items ≡ length known.new) }
 {
-    match counts.get_mut(&key) {
-        Some(count) => {
-            let before = *count;
-            *count = before + 1;
+    match known.find(&list) {
+        Some(number) => {
+            let before = counts[number];
+            counts[number] = before + 1;
             Ok(before)
         }
         None => {
-            counts.insert(key, 1)?;
+            known.add(list)?;
+            counts.push(1)?;
             Ok(0)
         }
     }

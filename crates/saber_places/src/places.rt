@@ -9,11 +9,12 @@ ghost use Rattle.saber_plan.specs.Tasks.{places_after};
 ghost use Rattle.saber_places.specs.Counting.{Counts, AreCounted, PlacesOn};
 
 use crate::counts::count_one;
-use crate::keys::key_of;
+use crate::keys::push_list;
+use crate::numbered::Numbered;
+use arrayvec::ArrayVec;
 use saber_flat::{RowRef, Rows};
 use saber_plan::{NoMemory, Plan};
 use std::alloc::Global;
-use std::collections::BTreeMap;
 
 /// How many rows so far have each key list of the columns of PARTITION BY, which are at most eight.
 /// A row of a key list that is known takes no memory. Contracts see it by `Counts`: which rows it
@@ -21,7 +22,9 @@ use std::collections::BTreeMap;
 #[derive(Drop)]
 pub struct Places {
     columns: Vec<u32>,
-    counts: BTreeMap<[i64; 8], u64>,
+    known: Numbered,
+    // of each list, by its number
+    counts: Vec<u64>,
 }
 
 impl Places {
@@ -37,7 +40,8 @@ impl Places {
         columns.extend_from_slice(partition)?;
         Ok(Some(Places {
             columns,
-            counts: BTreeMap::new(alloc),
+            known: Numbered::new(alloc),
+            counts: Vec::new(alloc),
         }))
     }
 
@@ -48,8 +52,9 @@ impl Places {
         ensures stands { IfOk result (λ n. (q : Tree) (xs : List Row) → Counts q xs self.old → n ≡ length (substream q (list_of q row.now) xs)) }
         ensures counts { OnOk result ((q : Tree) (xs : List Row) → Counts q xs self.old → Counts q (xs ++ row.now ∷ []) self.new) }
     {
-        let key = key_of(&self.columns, row.values());
-        let place = count_one(&mut self.counts, key)?;
+        let mut list = ArrayVec::new();
+        push_list(&mut list, &self.columns, row.values());
+        let place = count_one(&mut self.known, &mut self.counts, list)?;
         Ok(place)
     }
 

@@ -1,42 +1,63 @@
-use Rattle.std.proofs.Common.{◌≡◌, ◌+◌, Some, None, unwrap_or, sym, ◌∙◌, ap, arith}
-use Rattle.std.specs.Option.{option_copied_mut}
+use Rattle.std.proofs.Common.{◌≡◌, ◌+◌, ◌<◌, ◌∙◌, ◌++◌, ◌∷◌, [], ℕ, ℤ, List, length, set, Some, None, get_or, slice_get, unwrap_or, option_and_then, sym, ap, ap₂, rules, arith}
 use Rattle.std.specs.FinMap.{insert}
-use Rattle.saber_places.specs.Counts.{seen_tallies, count_of}
-use Rattle.saber_places.proofs.Tallied.{tally_at, tally_written, tally_inserted}
+use Rattle.saber_places.specs.Counts.{count_of}
+use Rattle.saber_places.specs.Numbering.{by_list, number_of}
+use Rattle.saber_places.proofs.Numbering.{number_below, set_at, pushed_at}
+use Rattle.saber_places.proofs.Tallied.{count_at, count_none}
 use Rattle.saber_places.proofs.counts.count_one.Goals as goal
 
-pub overflow_add-count : goal.overflow_add-count
-overflow_add-count c =
-    let k = c.args.key in
-    let es = c.args.counts.now.entries in
-    let here : count_of (seen_tallies es) k ≡ c.in-Some.count.now = ap (λ o. unwrap_or o 0) (tally_at k es (Some c.in-Some.count.now) (sym c.get_mut.ensures.value ∙ ap option_copied_mut c.in-Some.is)) in
-    omega (arith, here, c.requires)
+pub index-before-requires : goal.index-before-requires
+index-before-requires c =
+    let below = number_below c.args.list.items c.args.known.now c.in-Some.number (sym c.find.ensures.number ∙ c.in-Some.is) in
+    let less : c.in-Some.number < length c.args.counts.now.items = omega (arith, below, c.requires.long) in
+    search rules
+
+pub overflow_add-before : goal.overflow_add-before
+overflow_add-before c =
+    let number = sym c.find.ensures.number ∙ c.in-Some.is in
+    let below = number_below c.args.list.items c.args.known.now c.in-Some.number number in
+    let less : c.in-Some.number < length c.args.counts.now.items = omega (arith, below, c.requires.long) in
+    let here = count_at c.args.list.items c.args.known.now c.args.counts.now.items c.in-Some.number c.index-before.result.now number less (sym c.index-before.ensures) in
+    omega (arith, here, c.requires.small)
+
+pub index_mut-requires : goal.index_mut-requires
+index_mut-requires c =
+    let below = number_below c.args.list.items c.args.known.now c.in-Some.number (sym c.find.ensures.number ∙ c.in-Some.is) in
+    let less : c.in-Some.number < length c.args.counts.now.items = omega (arith, below, c.requires.long) in
+    search rules
 
 pub returns-in-Some-clause-was : goal.returns-in-Some-clause-was
 returns-in-Some-clause-was c =
-    let k = c.args.key in
-    let es = c.args.counts.now.entries in
-    sym (ap (λ o. unwrap_or o 0) (tally_at k es (Some c.in-Some.count.now) (sym c.get_mut.ensures.value ∙ ap option_copied_mut c.in-Some.is)))
+    let number = sym c.find.ensures.number ∙ c.in-Some.is in
+    let below = number_below c.args.list.items c.args.known.now c.in-Some.number number in
+    let less : c.in-Some.number < length c.args.counts.now.items = omega (arith, below, c.requires.long) in
+    sym (count_at c.args.list.items c.args.known.now c.args.counts.now.items c.in-Some.number c.index-before.result.now number less (sym c.index-before.ensures))
 
 pub returns-in-Some-clause-counted : goal.returns-in-Some-clause-counted
 returns-in-Some-clause-counted c =
-    let k = c.args.key in
-    let es = c.args.counts.now.entries in
-    let n = c.in-Some.count.now in
-    let found = sym c.get_mut.ensures.value ∙ ap option_copied_mut c.in-Some.is in
-    let here : count_of (seen_tallies es) k ≡ n = ap (λ o. unwrap_or o 0) (tally_at k es (Some n) found) in
-    ap seen_tallies (c.get_mut.follows.holds (n + 1)).0 ∙ tally_written k (n + 1) n es found ∙ ap (λ x. insert (seen_tallies es) k (x + 1)) (sym here)
+    let k = c.args.list.items in
+    let ls = c.args.known.now in
+    let ns = c.args.counts.now.items in
+    let i = c.in-Some.number in
+    let n = c.index-before.result.now in
+    let number = sym c.find.ensures.number ∙ c.in-Some.is in
+    let below = number_below k ls i number in
+    let less : i < length ns = omega (arith, below, c.requires.long) in
+    let here : count_of (by_list ls ns) k ≡ n = count_at k ls ns i n number less (sym c.index-before.ensures) in
+    ap (λ (l : List (List ℤ)). by_list l (set ns i (n + 1))) c.find.ensures.same
+    ∙ set_at k ls ns i (n + 1) number less
+    ∙ ap (λ (x : ℕ). insert (by_list ls ns) k (x + 1)) (sym here)
 
-pub returns-in_ok-insert-in-None-clause-was : goal.returns-in_ok-insert-in-None-clause-was
-returns-in_ok-insert-in-None-clause-was c =
-    let k = c.args.key in
-    let es = c.args.counts.now.entries in
-    sym (ap (λ o. unwrap_or o 0) (tally_at k es None (sym c.get_mut.ensures.value ∙ ap option_copied_mut c.in-None.is)))
+pub returns-in_ok-push-in-None-clause-was : goal.returns-in_ok-push-in-None-clause-was
+returns-in_ok-push-in-None-clause-was c =
+    sym (count_none c.args.list.items c.args.known.now c.args.counts.now.items (sym c.find.ensures.number ∙ c.in-None.is))
 
-pub returns-in_ok-insert-in-None-clause-counted : goal.returns-in_ok-insert-in-None-clause-counted
-returns-in_ok-insert-in-None-clause-counted c =
-    let k = c.args.key in
-    let es = c.args.counts.now.entries in
-    let here : count_of (seen_tallies es) k ≡ 0 = ap (λ o. unwrap_or o 0) (tally_at k es None (sym c.get_mut.ensures.value ∙ ap option_copied_mut c.in-None.is)) in
-    let same = ap seen_tallies (λ i. (c.get_mut.follows.holds-at-none i).entries) in
-    ap seen_tallies c.in_ok-insert-in-None.ensures.entries ∙ tally_inserted k 1 c.get_mut.follows.lender-at-none.entries ∙ ap (λ m. insert m k 1) same ∙ ap (λ x. insert (seen_tallies es) k (x + 1)) (sym here)
+pub returns-in_ok-push-in-None-clause-counted : goal.returns-in_ok-push-in-None-clause-counted
+returns-in_ok-push-in-None-clause-counted c =
+    let k = c.args.list.items in
+    let ls = c.args.known.now in
+    let ns = c.args.counts.now.items in
+    let none = sym c.find.ensures.number ∙ c.in-None.is in
+    ap₂ (λ (l : List (List ℤ)) (m : List ℕ). by_list l m) (c.in_ok-add-in-None.ensures ∙ ap (λ (l : List (List ℤ)). l ++ k ∷ []) c.find.ensures.same) c.in_ok-push-in-None.ensures.items
+    ∙ pushed_at k ls ns 1 none c.requires.long
+    ∙ ap (λ (x : ℕ). insert (by_list ls ns) k (x + 1)) (sym (count_none k ls ns none))
