@@ -84,7 +84,7 @@ module _ {O S K : Type 0} (plan : O → Tree) (contents : S → Kept) (taken : O
       record { told_are = (one.0, more.told_are); stages = (one.1, more.stages); suits = (one.2, more.suits); given = (one.3, more.given) }
 
   -- where there are some
-  pub bases_some : (ops : List O) (qs : List A) (ms : List (Member (Stage S K))) → qs ≢ [] → AllThree (λ op a m. Stands plan contents taken wrote failed writes op (sink a) m) ops qs ms → bases s.task wrote failed writes ops ms ≢ []
+  pub bases_some : (ops : List O) (qs : List A) (ms : List (Member (Stage S K))) → qs ≢ [] → AllThree (λ op a m. Stands plan contents taken wrote failed writes op (sink a) m) ops qs ms → bases s.task (rows_left plan s had) wrote failed writes ops ms ≢ []
   bases_some [] [] ms some stands e = some refl
   bases_some [] (a ∷ qs) [] some stands e = stands
   bases_some [] (a ∷ qs) (m ∷ ms) some stands e = stands
