@@ -1,7 +1,7 @@
 -- What is kept of key lists, by their numbers.
-use Rattle.std.proofs.Common.{◌≡◌, ◌<◌, ◌+◌, ℕ, zero, suc, List, [], ◌∷◌, ◌++◌, length, map, zip, get_or, slice_get, set, ℤ, Option, Some, None, option_and_then, refl, sym, ◌∙◌, ap, ap₂, subst, append-nil, append_assoc, length-append, arith}
+use Rattle.std.proofs.Common.{◌≡◌, ◌<◌, ◌+◌, ℕ, zero, suc, List, [], ◌∷◌, ◌++◌, length, map, zip, get_or, slice_get, set, ℤ, Option, Some, None, option_and_then, refl, sym, ◌∙◌, ap, ap₂, subst, append_assoc, length-append, arith}
 use Rattle.std.proofs.lemmas.List.{length-map}
-use Rattle.std.specs.FinMap.{get, insert, empty, from_entries}
+use Rattle.std.specs.FinMap.{get, insert, from_entries}
 use Rattle.arrayvec.specs.ArrayVec.{ArrayVec}
 use Rattle.saber_plan.specs.Answers.{key_cmp}
 use Rattle.saber_places.specs.Numbering.{number_of, by_list, lists_in}
@@ -49,18 +49,12 @@ pub record Turned (es left : List (List ℤ × Own)) (m : Lists) : Type 0 where
   pub split : es ≡ left ++ done
   pub is : m ≡ from_entries {R = key_cmp} done
 
-pub turned_none : (es : List (List ℤ × Own)) (m : Lists) → m ≡ empty → Turned es es m
-turned_none es m e = record { done = []; split = sym (append-nil es); is = e }
-
 pub turned_more : (es left : List (List ℤ × Own)) (k : List ℤ) (o : Own) (m n : Lists) → Turned es (left ++ (k, o) ∷ []) m → n ≡ insert m k o → Turned es left n
 turned_more es left k o m n t e = record {
   done = (k, o) ∷ t.done;
   split = t.split ∙ append_assoc left ((k, o) ∷ []) t.done;
   is = e ∙ ap (λ (l : Lists). insert l k o) t.is;
 }
-
-pub turned_all : (es left : List (List ℤ × Own)) (m : Lists) → left ≡ [] → Turned es left m → m ≡ from_entries {R = key_cmp} es
-turned_all es left m none t = t.is ∙ sym (ap (λ (l : List (List ℤ × Own)). from_entries {R = key_cmp} l) (t.split ∙ ap (λ (l : List (List ℤ × Own)). l ++ t.done) none))
 
 -- the last entry
 pub last_entry : (vs : List (ArrayVec ℤ)) (v : ArrayVec ℤ) (ks : List Keyed) (k : Keyed) → length ks ≡ length vs

@@ -11,3 +11,6 @@ impl Keyed {
 
 /// Lets go of what rows gave.
 pub(crate) fn let_rows_go(_rows: Vec<RowPiece>) {}
+
+/// Lets go of what a map had of a key list, if it had anything.
+pub(crate) fn let_old_go(_old: Option<Keyed>) {}

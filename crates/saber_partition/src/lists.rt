@@ -12,6 +12,7 @@ ghost use Rattle.saber_partition.specs.Stores.{kept_lists, lists_of, made_of, ow
 ghost use Rattle.saber_places.specs.Numbering.{lists_in, number_of};
 
 use crate::keyed::Keyed;
+use crate::letting::let_old_go;
 use crate::numbers::numbers_behind;
 use crate::pieces::RowPiece;
 use arrayvec::ArrayVec;
@@ -202,7 +203,8 @@ fn in_order(
         let Some(own) = owns.pop() else {
             return Ok(all);
         };
-        all.insert(list, own)?;
+        let old = all.insert(list, own)?;
+        let_old_go(old);
     }
     Ok(all)
 }

@@ -1,10 +1,9 @@
 -- Rows counted by their key lists.
-use Rattle.std.proofs.Common.{◌≡◌, ◌≤◌, ◌<◌, ◌+◌, ◌^◌, ℕ, zero, suc, List, [], ◌∷◌, ◌++◌, length, filter, take, drop, get_or, slice_get, ℤ, Bool, true, false, cond, Option, Some, None, unwrap_or, refl, sym, ◌∙◌, ap, arith, length-append, append_assoc, append-nil}
-use Rattle.std.proofs.lemmas.Cmp.{tied_itself}
-use Rattle.std.proofs.lemmas.List.{length-map, take_more, drop_more, drop_all}
+use Rattle.std.proofs.Common.{◌≡◌, ◌≤◌, ◌<◌, ◌+◌, ◌^◌, ℕ, zero, suc, List, [], ◌∷◌, ◌++◌, length, filter, take, drop, get_or, slice_get, ℤ, Bool, true, false, cond, Option, Some, refl, sym, ◌∙◌, ap, arith, length-append, append_assoc, append-nil}
+use Rattle.std.proofs.lemmas.List.{take_more, drop_more, drop_all}
 use Rattle.std.proofs.lemmas.Option.{get_or_from_slice_get}
 use Rattle.std.proofs.lemmas.List.Elements.{filter-append}
-use Rattle.std.specs.Ordering.{eq_by_cmp, is_eq}
+use Rattle.std.specs.Ordering.{eq_by_cmp}
 use Rattle.std.specs.FinMap.{insert}
 use Rattle.saber_plan.specs.declared.rows.Row.{Row}
 use Rattle.saber_plan.specs.declared.rows.Side.{Side}
@@ -21,8 +20,6 @@ use Rattle.saber_plan.specs.Windows.{by_side, step_mark, mark_after, no_rows}
 use Rattle.saber_plan.specs.Facts.Lists.{all_at, all_back}
 use Rattle.saber_plan.specs.Answers.{key_cmp, key, list_of, substream}
 use Rattle.saber_plan.specs.Tasks.{places_after}
-use Rattle.saber_plan.specs.Facts.Parts.{total, exact}
-use Rattle.saber_plan.specs.Facts.Maps.{equal_if}
 use Rattle.saber_places.specs.declared.places.Places.{Places}
 use Rattle.saber_places.specs.Counts.{Tallies, count_of}
 use Rattle.saber_places.specs.Numbering.{by_list}

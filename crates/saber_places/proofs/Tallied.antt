@@ -1,5 +1,5 @@
 -- Counts by the numbers of key lists.
-use Rattle.std.proofs.Common.{◌≡◌, ◌<◌, ℕ, zero, suc, List, [], ◌∷◌, length, get_or, slice_get, ℤ, Bool, true, false, cond, Option, Some, None, unwrap_or, option_and_then, refl, sym, ◌∙◌, ap, arith}
+use Rattle.std.proofs.Common.{◌≡◌, ◌<◌, ℕ, zero, suc, List, [], ◌∷◌, length, get_or, slice_get, ℤ, Bool, true, false, cond, Option, Some, None, unwrap_or, option_and_then, refl, ◌∙◌, ap, arith}
 use Rattle.std.specs.Ordering.{eq_by_cmp}
 use Rattle.std.specs.FinMap.{get, insert, get-insert}
 use Rattle.saber_plan.specs.Answers.{key_cmp}

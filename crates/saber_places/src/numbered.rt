@@ -17,7 +17,7 @@ pub struct Numbered {
     lists: Vec<ArrayVec<i64, 8>>,
     // their numbers
     order: BTreeMap<ArrayVec<i64, 8>, usize>,
-    // at each spot the number of a list that belongs there; none, or 2 to the power of something
+    // at each spot the number of a list that belongs there; none, or a power of two of them
     hints: Vec<u32>,
 }
 

@@ -1,7 +1,7 @@
-use Rattle.std.proofs.Common.{◌≡◌, ◌+◌, ◌<◌, ◌∙◌, ◌++◌, ◌∷◌, [], ℕ, ℤ, List, length, set, Some, None, get_or, slice_get, unwrap_or, option_and_then, sym, ap, ap₂, rules, arith}
+use Rattle.std.proofs.Common.{◌≡◌, ◌+◌, ◌<◌, ◌∙◌, ◌++◌, ◌∷◌, [], ℕ, ℤ, List, length, set, sym, ap, ap₂, rules, arith}
 use Rattle.std.specs.FinMap.{insert}
 use Rattle.saber_places.specs.Counts.{count_of}
-use Rattle.saber_places.specs.Numbering.{by_list, number_of}
+use Rattle.saber_places.specs.Numbering.{by_list}
 use Rattle.saber_places.proofs.Numbering.{number_below, set_at, pushed_at}
 use Rattle.saber_places.proofs.Tallied.{count_at, count_none}
 use Rattle.saber_places.proofs.counts.count_one.Goals as goal

@@ -1,7 +1,6 @@
-use Rattle.std.proofs.Common.{◌≡◌, ◌++◌, ◌∷◌, [], List, ℕ, ℤ, length, None, sym, ◌∙◌, ap, ap₂, subst, rules}
+use Rattle.std.proofs.Common.{◌≡◌, ◌++◌, ◌∷◌, [], List, ℤ, length, None, sym, ◌∙◌, ap, ap₂, subst, rules}
 use Rattle.arrayvec.specs.ArrayVec.{ArrayVec}
-use Rattle.std.specs.FinMap.{FinMap, insert}
-use Rattle.saber_plan.specs.Answers.{key_cmp}
+use Rattle.std.specs.FinMap.{insert}
 use Rattle.saber_places.specs.Numbering.{number_of, lists_in, numbers_in, IsNumbered}
 use Rattle.saber_places.proofs.Numbering.{lists_pushed, length_in, number_inserted, numbered_more}
 use Rattle.saber_places.proofs.numbered.Numbered.add.Goals as goal
