@@ -1,12 +1,11 @@
 -- How the process ends.
-use Rattle.std.specs.Prelude.{◌≡◌, ◌≢◌, ℕ, List, Option}
+use Rattle.std.specs.Prelude.{◌≡◌, ℕ, List, Option}
 use Rattle.saber_io.specs.Outside.{FilesView}
-use Rattle.saber_plan.specs.Outputs.{Rose, appended_text, raised_count, AppendsPrefix}
 use Rattle.saber_words.specs.declared.commands.WordsFault.{WordsFault}
 use Rattle.saber_words.specs.declared.commands.WordsFault.TheVariants.{NoMemory}
 use Rattle.saber_notes.specs.Notes.{note_of, status_of}
 use Rattle.saber_notes.specs.declared.note.Noted.{Noted}
-use Rattle.saber_notes.specs.declared.note.Noted.TheVariants as noted_as
+use Rattle.saber_notes.specs.Told.{TellsNotes}
 use Rattle.saber_cli.specs.Unread.{unread}
 use Rattle.saber_top.specs.declared.ended.Top.{Top}
 use Rattle.saber_top.specs.Says.{SaysTop}
@@ -16,14 +15,7 @@ module _ {N : Type 0} (noted_text : N → Option (List ℕ)) (note_faults note_w
   pub record Refuses (fault : WordsFault) (status : ℕ) (old new : N) : Type 0 where
     pub noted : Noted
     pub status_is : status ≡ status_of (unread fault)
-    pub something : noted ≢ noted_as.Nothing
-    pub whole : noted ≡ noted_as.Whole → noted_text new ≡ appended_text (noted_text old) (note_of (unread fault))
-    pub failed : noted ≡ noted_as.Failed → AppendsPrefix (noted_text old) (noted_text new) (note_of (unread fault))
-    pub memory : noted ≡ noted_as.NoMemory → noted_text new ≡ noted_text old
-    pub note : noted ≡ noted_as.Failed → Rose (note_faults old) (note_faults new)
-    pub note_good : noted ≢ noted_as.Failed → note_faults new ≡ note_faults old
-    pub one : noted ≢ noted_as.NoMemory → note_writes new ≡ raised_count (note_writes old)
-    pub none : noted ≡ noted_as.NoMemory → note_writes new ≡ note_writes old
+    pub notes : TellsNotes noted_text note_faults note_writes old new status noted (note_of (unread fault))
 
 -- The status is that of a call of `top` with these words, of which all holds that its contract says; or memory lacked to lend them, and nothing was opened or created.
 module _ {F U K N T : Type 0} (told : F → Option FilesView) (faults : F → ℕ) (written : K → Option (List ℕ)) (failed made : K → ℕ) (noted_text : N → Option (List ℕ)) (note_faults note_writes : N → ℕ) (asked : U → Option (List (List ℕ))) (outs_faults : U → ℕ) (out_written : T → Option (List ℕ)) (out_failed out_made : T → ℕ) where

@@ -19,7 +19,7 @@ ghost use Rattle.saber.specs.Endings.{IsOfTop, Refuses};
 
 use saber_cli::{WordsFault, refuse_words};
 use saber_io::{Files, HostFiles, HostOuts, OpenGate, Outs, Sink, StdSink};
-use saber_top::{ended, top};
+use saber_top::{Means, ended, top};
 use std::alloc::{AllocError, Global};
 use std::io::ErrorKind;
 use std::process::ExitCode;
@@ -82,9 +82,12 @@ where
 {
     match texts_of(alloc, texts) {
         Ok(words) => {
-            let ended::Top { status, .. } = top(
-                rt, alloc, &words, files, outs, sink, notes, &OpenGate,
-            );
+            let means = Means {
+                rt,
+                alloc,
+                gate: &OpenGate,
+            };
+            let ended::Top { status, .. } = top(&means, &words, files, outs, sink, notes);
             status
         }
         Err(fault) => refused(fault, notes),

@@ -1,8 +1,9 @@
 //! Two queries in a chain: the lines of the first are the rows of the second, while both run.
 //! The number of a window is the time of such a row. The command `chain` of the top call runs it.
 //!
-//! - Parts: `chained` (how a chain ends), `gate` (tasks of both told apart), `first` (it writes
-//!   into the pipe), `second` (it reads from it), `settle` (what both come to), `runs` (the call).
+//! - Parts: `plans` (those of both queries), `chained` (how a chain ends), `gate` (tasks of both
+//!   told apart), `first` (it writes into the pipe), `second` (it reads from it), `settle` (what
+//!   both come to), `runs` (the call).
 //! - Call: `chain` takes two checked plans, the inputs of the first, a sink and sizes, and gives
 //!   inputs and sink back with how both ended.
 //! - Proved (`specs/Chains.antt`): what goes out is what the second query gives over the lines that
@@ -21,10 +22,12 @@
 mod chained;
 mod first;
 mod gate;
+mod plans;
 mod runs;
 mod second;
 mod settle;
 
 pub use chained::Chained;
+pub use plans::Plans;
 pub use runs::chain;
 pub use saber_engine::{Inputs, RunEnd, Stopped};

@@ -22,12 +22,13 @@ ghost use Rattle.saber_chain.specs.Chains.{Chains, RunsBoth};
 use crate::Chained;
 use crate::first::{FirstJob, FirstPromise, FirstRan, run_first};
 use crate::gate::FirstGate;
+use crate::plans::Plans;
 use crate::second::run_second;
 use crate::settle::settle;
-use saber_engine::{Inputs, RunEnd};
+use saber_engine::{Inputs, Means, RunEnd};
 use saber_io::{Gate, Sink, Source};
 use saber_pipe::{Pipe, PipeName};
-use saber_plan::{Plan, Sizes};
+use saber_plan::Sizes;
 use std::alloc::Global;
 use std::marker::Brand;
 use std::snapshot::Snapshot;
@@ -46,39 +47,37 @@ fn run_both<
     P: PipeName + Send,
     R: Threads + Wait + Sync,
 >(
-    rt: &'a R,
-    alloc: Global,
-    first: &'a Plan,
-    second: &'a Plan,
+    means: &'a Means<'a, G, R>,
+    plans: &'a Plans,
     inputs: Inputs<S>,
     sink: K,
     sizes: &'a Sizes,
-    gate: &'a G,
     pipe: &'a mut Pipe,
     alone: &'a AtomicBool,
 ) -> Chained<S, K>
-    requires first { IsChecked (tree_of first.now) }
-    requires inputs { length (each_input S.left inputs) ≡ length (tree_of first.now).streams }
-    requires second { IsChecked (tree_of second.now) }
-    requires one { length (tree_of second.now).streams ≡ 1 }
+    requires first { IsChecked (tree_of plans.now.first) }
+    requires inputs { length (each_input S.left inputs) ≡ length (tree_of plans.now.first).streams }
+    requires second { IsChecked (tree_of plans.now.second) }
+    requires one { length (tree_of plans.now.second).streams ≡ 1 }
     requires sizes { SizesFit sizes.now }
     requires new { IsNew pipe.old }
     requires named { P.id ≡ id_of pipe.old }
-    ensures { RunsBoth S.left S.faults K.written K.faults K.writes (tree_of first.now) (tree_of second.now) sizes.now inputs sink result }
+    ensures { RunsBoth S.left S.faults K.written K.faults K.writes (tree_of plans.now.first) (tree_of plans.now.second) sizes.now inputs sink result }
 {
-    let (pipe_sink, feed) = pipe.ends::<R, P>(rt, alone);
+    let (pipe_sink, feed) = pipe.ends::<R, P>(means.rt, alone);
     let job = FirstJob {
-        rt,
-        alloc,
-        plan: first,
+        rt: means.rt,
+        alloc: means.alloc,
+        plan: &plans.first,
         inputs,
         sink: pipe_sink,
         sizes,
-        gate: FirstGate(gate),
+        gate: FirstGate(means.gate),
     };
+    let second = &plans.second;
     thread::scope(
         thread::scope_env(),
-        rt,
+        means.rt,
         move |scope| -> Chained<S, K>
             requires first { IsChecked (tree_of job.plan.now) }
             requires inputs { length (each_input S.left job.inputs) ≡ length (tree_of job.plan.now).streams }
@@ -109,12 +108,12 @@ fn run_both<
             );
             match first {
                 Ok(child) => {
-                    let mut ran = run_second(rt, alloc, second, feed, None, sink, sizes, gate);
+                    let mut ran = run_second(means, second, feed, None, sink, sizes);
                     let FirstRan {
                         ended,
                         receipt,
                         backlog,
-                    } = child.join(rt);
+                    } = child.join(means.rt);
                     ran.relay.dismiss(backlog);
                     settle(ended, receipt, ran)
                 }
@@ -125,7 +124,7 @@ fn run_both<
                         receipt,
                         backlog,
                     } = (refused.value)();
-                    let ran = run_second(rt, alloc, second, feed, Some(backlog), sink, sizes, gate);
+                    let ran = run_second(means, second, feed, Some(backlog), sink, sizes);
                     settle(ended, receipt, ran)
                 }
             }
@@ -146,26 +145,25 @@ pub fn chain<
 >(
     rt: &R,
     alloc: Global,
-    first: &Plan,
-    second: &Plan,
+    plans: &Plans,
     inputs: Inputs<S>,
     sink: K,
     sizes: &Sizes,
     gate: &G,
 ) -> Chained<S, K>
-    requires first { IsChecked (tree_of first.now) }
-    requires inputs { length (each_input S.left inputs) ≡ length (tree_of first.now).streams }
-    requires second { IsChecked (tree_of second.now) }
-    requires one { length (tree_of second.now).streams ≡ 1 }
+    requires first { IsChecked (tree_of plans.now.first) }
+    requires inputs { length (each_input S.left inputs) ≡ length (tree_of plans.now.first).streams }
+    requires second { IsChecked (tree_of plans.now.second) }
+    requires one { length (tree_of plans.now.second).streams ≡ 1 }
     requires sizes { SizesFit sizes.now }
     requires open_end { sizes.now.flush ≡ false }
 
     // What goes out is the second query's text over the lines of the first, by one write for each of
     // its tasks that has text.
-    ensures gives { Chains (tree_of first.now) (tree_of second.now) sizes.now (told_by S.left inputs) (seen_of K.written K.writes sink) (seen_of K.written K.writes result.sink) result }
+    ensures gives { Chains (tree_of plans.now.first) (tree_of plans.now.second) sizes.now (told_by S.left inputs) (seen_of K.written K.writes sink) (seen_of K.written K.writes result.sink) result }
 
     // The first query's end is as of a run of its own, but that it never fails to write.
-    ensures whole { LeavesWhole (tree_of first.now) sizes.now (each_input S.left inputs) (each_input S.left result.inputs) result.first result.first_tasks }
+    ensures whole { LeavesWhole (tree_of plans.now.first) sizes.now (each_input S.left inputs) (each_input S.left result.inputs) result.first result.first_tasks }
     ensures takes { (taken : List (List ℕ)) × GaveAll (each_input S.left inputs) taken (each_input S.left result.inputs) }
     ensures read { (side : Side) → result.first ≡ RunEnd.ReadFault side → RoseAt side (each_input S.faults inputs) (each_input S.faults result.inputs) }
     ensures read_good { IsClean result.first → each_input S.faults result.inputs ≡ each_input S.faults inputs }
@@ -190,9 +188,8 @@ pub fn chain<
     match Pipe::new(alloc) {
         Ok(mut pipe) => {
             let alone = AtomicBool::new(false);
-            run_both::<S, K, G, Brand, R>(
-                rt, alloc, first, second, inputs, sink, sizes, gate, &mut pipe, &alone,
-            )
+            let means = Means { rt, alloc, gate };
+            run_both::<S, K, G, Brand, R>(&means, plans, inputs, sink, sizes, &mut pipe, &alone)
         }
         Err(_) => Chained {
             first: RunEnd::NoMemory,

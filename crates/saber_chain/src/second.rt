@@ -10,11 +10,10 @@ ghost use Rattle.saber_plan.specs.declared.ends.RunEnd.{RunEnd};
 ghost use Rattle.saber_engine.specs.Endings.{MayStop};
 ghost use Rattle.saber_chain.specs.Seconds.{second_sizes, RunsSecondTo};
 
-use saber_engine::{Ran, engine_fed};
+use saber_engine::{Means, Ran, engine_fed};
 use saber_io::{Gate, Sink};
 use saber_pipe::{Backlog, PipeFeed, PipeName, Relay};
 use saber_plan::{Plan, Sizes};
-use std::alloc::Global;
 use std::sync::Wait;
 use std::thread::Threads;
 
@@ -45,14 +44,12 @@ pub(crate) struct SecondRan<'a, K, R: Wait, P: PipeName> {
 /// if it has ended. Behind the end of its run it takes what still comes, up to the mark, so that
 /// the first query doesn't wait for room.
 pub(crate) fn run_second<'a, K: Sink + Send, G: Gate + Sync, P: PipeName, R: Threads + Wait + Sync>(
-    rt: &R,
-    alloc: Global,
+    means: &Means<'_, G, R>,
     plan: &Plan,
     feed: PipeFeed<'a, R, P>,
     backlog: Option<Backlog<'a, P>>,
     sink: K,
     sizes: &Sizes,
-    gate: &G,
 ) -> SecondRan<'a, K, R, P>
     requires checked { IsChecked (tree_of plan.now) }
     requires one { length (tree_of plan.now).streams ≡ 1 }
@@ -69,13 +66,13 @@ pub(crate) fn run_second<'a, K: Sink + Send, G: Gate + Sync, P: PipeName, R: Thr
 {
     let mut relay = Relay::new(feed, backlog);
     let ran = engine_fed(
-        rt,
-        alloc,
+        means.rt,
+        means.alloc,
         plan,
         &mut relay,
         sink,
         &second_sizes(sizes),
-        gate,
+        means.gate,
     );
     relay.drain();
     SecondRan { ran, relay }

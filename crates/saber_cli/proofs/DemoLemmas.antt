@@ -13,10 +13,10 @@ use Rattle.saber_plan.specs.Answers.{text}
 use Rattle.saber_plan.specs.Tasks.{upto, task_count, row_tasks, run_input}
 use Rattle.saber_plan.specs.Needs.{wide}
 use Rattle.saber_plan.specs.Trees.{Tree}
-use Rattle.saber_plan.specs.Sizes.{FileLimits}
+use Rattle.saber_plan.specs.Sizes.{limits_of}
 use Rattle.saber_laws.proofs.TaskCutLaws.{rows_fit as rows_have_tasks}
 use Rattle.saber_laws.proofs.WideLaws.{none_is_wide}
-use Rattle.saber_words.specs.Demo.{AskedDemo}
+use Rattle.saber_words.specs.Demo.{AskedDemo, HasDemoSizes, generated_limits}
 use Rattle.saber_words.specs.Commands.{Asked, demo, command_of}
 use Rattle.saber_words.specs.declared.commands.WordsFault.{WordsFault}
 use Rattle.saber_words.specs.declared.commands.WordsFault.TheVariants as fault
@@ -48,12 +48,8 @@ use Rattle.saber_cli.proofs.LeavesLemmas.{none_left}
 
 -- ---- the input and its tasks
 
--- what is asked of its lines
-abbrev pub demo_limits : FileLimits
-demo_limits = record { most = 2 ^ 40; slack = 0 }
-
 -- the generated file is read whole
-pub read_of : (seed n : ℕ) → n ≤ 2 ^ 20 → input_of demo_tree demo_limits (generated_file seed n ∷ []) ≡ record { rows = demo_rows seed n; end = all_read }
+pub read_of : (seed n : ℕ) → n ≤ 2 ^ 20 → input_of demo_tree generated_limits (generated_file seed n ∷ []) ≡ record { rows = demo_rows seed n; end = all_read }
 read_of seed n few = generated_is_read seed n (2 ^ 40) few (omega arith)
 
 -- no task of it looks back
@@ -96,28 +92,25 @@ end_is n ring read ends.NoMemory old new some all h f w = tt
 abbrev pub demo_read : AskedDemo → Read
 demo_read d = record { rows = demo_rows d.seed d.rows; end = all_read }
 
--- the engine is given the query's plan, the sizes that were asked for, and the generated file
-pub record IsRunOf (d : AskedDemo) (q : Tree) (n : ℕ) (limits : FileLimits) (flush : Bool) (file : List ℕ) : Type 0 where
+-- the engine is given the query's plan and the generated file
+pub record IsRunOf (d : AskedDemo) (q : Tree) (file : List ℕ) : Type 0 where
   pub plan : q ≡ demo_tree
-  pub task : n ≡ d.task
-  pub lines : limits ≡ demo_limits
-  pub goes_on : flush ≡ false
   pub rows : file ≡ generated_file d.seed d.rows
 
 -- what it gives then
-pub run_gives : (d : AskedDemo) (q : Tree) (n ring : ℕ) (limits : FileLimits) (flush : Bool) (file : List ℕ) (e : RunEnd) (tasks : ℕ) (out : List ℕ) → d.rows ≤ 2 ^ 20 → IsRunOf d q n limits flush file
-    → run_defs.Gives q n ring flush (input_of q limits (file ∷ [])) e tasks out → run_defs.Gives demo_tree d.task ring false (demo_read d) e tasks out
-run_gives d q n ring limits flush file e tasks out few r h =
-    let read : input_of q limits (file ∷ []) ≡ demo_read d = (λ i. input_of (r.plan i) (r.lines i) (r.rows i ∷ [])) ∙ read_of d.seed d.rows few in
-    transport (λ i. run_defs.Gives (r.plan i) (r.task i) ring (r.goes_on i) (read i) e tasks out) h
+pub run_gives : (d : AskedDemo) (q : Tree) (file : List ℕ) (e : RunEnd) (tasks : ℕ) (out : List ℕ) → HasDemoSizes d → IsRunOf d q file
+    → run_defs.Gives q d.sizes.task d.sizes.ring d.sizes.flush (input_of q (limits_of d.sizes) (file ∷ [])) e tasks out → run_defs.Gives demo_tree d.sizes.task d.sizes.ring false (demo_read d) e tasks out
+run_gives d q file e tasks out s r h =
+    let read : input_of q (limits_of d.sizes) (file ∷ []) ≡ demo_read d = (λ i. input_of (r.plan i) (s.limits i) (r.rows i ∷ [])) ∙ read_of d.seed d.rows s.few_generated in
+    transport (λ i. run_defs.Gives (r.plan i) d.sizes.task d.sizes.ring (s.goes_on i) (read i) e tasks out) h
 
 -- where all is read, the text of all tasks is the answer
-pub whole_answer : (d : AskedDemo) (ring tasks : ℕ) (e : RunEnd) (out : List ℕ) → 1 ≤ d.task → e ≡ ends.AllRead → run_defs.Gives demo_tree d.task ring false (demo_read d) e tasks out → IsAnswer d out tasks
+pub whole_answer : (d : AskedDemo) (ring tasks : ℕ) (e : RunEnd) (out : List ℕ) → 1 ≤ d.sizes.task → e ≡ ends.AllRead → run_defs.Gives demo_tree d.sizes.task ring false (demo_read d) e tasks out → IsAnswer d out tasks
 whole_answer d ring tasks e out some is h =
-    let a : Assembles demo_tree d.task (generated_input d.seed d.rows) (reach_of ends.AllRead) tasks out = subst (λ (x : RunEnd). Assembles demo_tree d.task (generated_input d.seed d.rows) (reach_of x) tasks out) is h.assembles in
+    let a : Assembles demo_tree d.sizes.task (generated_input d.seed d.rows) (reach_of ends.AllRead) tasks out = subst (λ (x : RunEnd). Assembles demo_tree d.sizes.task (generated_input d.seed d.rows) (reach_of x) tasks out) is h.assembles in
     let all : tasks ≡ tasks_of_run d = a.all refl in
-    let rows : upto d.task (generated_input d.seed d.rows) tasks ≡ generated_input d.seed d.rows =
-    ap (upto d.task (generated_input d.seed d.rows)) all ∙ all_rows d.task (demo_rows d.seed d.rows) some in
+    let rows : upto d.sizes.task (generated_input d.seed d.rows) tasks ≡ generated_input d.seed d.rows =
+    ap (upto d.sizes.task (generated_input d.seed d.rows)) all ∙ all_rows d.sizes.task (demo_rows d.seed d.rows) some in
     record { text_is = a.answers (λ e. cc) ∙ ap (text demo_tree) rows; tasks_are = all }
 
 -- what a sink has that had nothing

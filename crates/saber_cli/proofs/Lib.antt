@@ -18,4 +18,3 @@ pub mod ChainLeaveLemmas
 pub mod ChainRunLemmas
 pub mod WorkedChain
 pub mod AloneLemmas
-pub mod NoteLemmas

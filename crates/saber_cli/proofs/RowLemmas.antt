@@ -14,14 +14,14 @@ use Rattle.saber_dispatch.specs.declared.inputs.Inputs.TheVariants.{One, Two}
 use Rattle.saber_engine.specs.Sources.{each_input, told_by, RoseAt, GaveAll}
 use Rattle.saber_plan.specs.Files.{input_of}
 use Rattle.saber_engine.specs.Gives.{ReadsWhole}
-use Rattle.saber_words.specs.Commands.{AskedRun}
+use Rattle.saber_words.specs.declared.commands.RowNames.{RowNames}
 use Rattle.saber_notes.specs.declared.outcome.InputFile.TheVariants.{Query, Left, Right, SecondQuery}
 use Rattle.saber_notes.specs.declared.outcome.Outcome.{Outcome}
 use Rattle.saber_notes.specs.declared.outcome.Outcome.TheVariants.{Done, Usage, FileCount, QueryFault, SecondQueryFault, Unchainable, LineRefused, ChainLineRefused, OpenFault, ReadFault, TooWide, WriteFault, NoMemory}
 use Rattle.saber_cli.specs.Outcomes.{IsClean, IsFileFault, IsOfRun}
 use Rattle.saber_cli.specs.Endings.{file_on}
 use Rattle.saber_cli.specs.Answered.{Answered, AnsweredIn}
-use Rattle.saber_cli.specs.Due.{Contents, contents_of, row_names}
+use Rattle.saber_cli.specs.Due.{Contents, contents_of, rows_named}
 use Rattle.saber_cli.specs.Uses.{IsOf, IsOpened, KeepsFaults}
 use Rattle.saber_cli.specs.Leaves.{AreOf, HadNoFaults, HadFaults, Matches}
 use Rattle.saber_cli.specs.RowFiles.{IsNotOpened, OpensAll, UsesRows, raised_by, source_back, after_use}
@@ -62,8 +62,8 @@ back_of_two l name o a b c d left faults opens fresh asked (inr (k, n)) closed =
   matches = λ query z. refl;
 })
 
-pub right_unopened : (r : AskedRun) (name : List ℕ) (o : Outcome) (a b c d : Option FilesView) (left : Option (List ℕ)) (faults : ℕ) → r.right ≡ Some name → Opens a r.left left → faults ≡ 0 → b ≡ after_asking a r.left → IsNotOpened Right name o b c → d ≡ after_closing c left faults → UsesRows (row_names r) o a d
-right_unopened r name o a b c d left faults e opens fresh asked not closed = subst (λ x. UsesRows (r.left ∷ option_to_list x) o a d) (sym e) (back_of_two r.left name o a b c d left faults opens fresh asked not closed)
+pub right_unopened : (r : RowNames) (name : List ℕ) (o : Outcome) (a b c d : Option FilesView) (left : Option (List ℕ)) (faults : ℕ) → option_map (λ name. name.now) r.right ≡ Some name → Opens a r.left.now left → faults ≡ 0 → b ≡ after_asking a r.left.now → IsNotOpened Right name o b c → d ≡ after_closing c left faults → UsesRows (rows_named r) o a d
+right_unopened r name o a b c d left faults e opens fresh asked not closed = subst (λ x. UsesRows (r.left.now ∷ option_to_list x) o a d) (sym e) (back_of_two r.left.now name o a b c d left faults opens fresh asked not closed)
 
 -- ---- sources as they are given back
 

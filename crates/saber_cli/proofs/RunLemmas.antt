@@ -4,7 +4,6 @@ use Rattle.saber_plan.specs.Sizes.{limits_of}
 use Rattle.saber_plan.specs.Rows.{Read}
 use Rattle.saber_plan.specs.Trees.{Tree}
 use Rattle.saber_io.specs.Outside.{FilesView, content_in}
-use Rattle.saber_plan.specs.Sizes.{FileLimits}
 use Rattle.saber_query.specs.declared.fault.Cause.{Cause}
 use Rattle.saber_check.specs.Texts.{HasPlan, HasFault}
 use Rattle.saber_words.specs.Commands.{Asked, run, AskedRun}
@@ -27,12 +26,6 @@ use Rattle.saber_cli.specs.Gives.{Gives}
 use Rattle.saber_cli.proofs.LeavesLemmas.{IsRefused}
 use Rattle.saber_cli.proofs.SomeDue.{some_due, no_chain}
 use Rattle.saber_cli.proofs.DueLemmas.{HasQuery, early_puts, lacks_allowed, run_plan, run_or_fault, same_refusal, there_not_missing, begun_plan, begun_fault}
-
--- ---- sizes
-
--- a fact of four sizes, of equal ones
-pub sized : (P : ℕ → ℕ → FileLimits → Bool → Type 0) (n ring task cells : ℕ) (m limits : FileLimits) (b flush : Bool) → n ≡ task → ring ≡ cells → m ≡ limits → b ≡ flush → P n ring m b → P task cells limits flush
-sized P n ring task cells m limits b flush e f g h k = subst (P task cells limits) h (subst (λ x. P task cells x b) g (subst (λ x. P task x m b) f (subst (λ x. P x ring m b) e k)))
 
 -- ---- no text of a query
 

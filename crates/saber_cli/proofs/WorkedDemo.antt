@@ -6,6 +6,7 @@ use Rattle.saber_plan.specs.Values.{value_at}
 use Rattle.saber_plan.specs.Windows.{placed_after, from}
 use Rattle.saber_plan.specs.Answers.{with_key, keys_of, lines, text}
 use Rattle.saber_demo.specs.Generator.{state}
+use Rattle.saber_words.specs.Commands.{usual_sizes}
 use Rattle.saber_demo.specs.Summary.{summary}
 use Rattle.saber_notes.specs.declared.outcome.InputFile.{InputFile}
 use Rattle.saber_notes.specs.declared.outcome.Outcome.TheVariants.{Done, OpenFault, ReadFault}
@@ -27,7 +28,7 @@ of_no_row : summary_of_run 1 0 ≡ codes "rows 0\nlines 0\nbytes 0\nlast -\n"
 unfolding summary state from lines_of value_at placed_after with_key keys_of lines text digits
 of_no_row = refl
 
-three_tasks : tasks_of_run (record { seed = 1; rows = 9; task = 3; ring = 1; threads = 0 }) ≡ 3
+three_tasks : tasks_of_run (record { seed = 1; rows = 9; sizes = record usual_sizes { task = 3; ring = 1; threads = 0 } }) ≡ 3
 unfolding state from
 three_tasks = refl
 

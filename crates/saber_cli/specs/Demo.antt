@@ -18,4 +18,4 @@ summary_of_run seed rows = summary rows (text demo_tree (generated_input seed ro
 
 -- how many tasks the run has
 abbrev pub tasks_of_run : AskedDemo → ℕ
-tasks_of_run d = task_count d.task (generated_input d.seed d.rows)
+tasks_of_run d = task_count d.sizes.task (generated_input d.seed d.rows)

@@ -10,6 +10,7 @@ use Rattle.saber_query.specs.Words.{words}
 use Rattle.saber_query.specs.Spelling.{spelled_text}
 use Rattle.saber_check.specs.Texts.{HasPlan, HasFault}
 use Rattle.saber_words.specs.Chain.{AskedChain}
+use Rattle.saber_words.specs.declared.commands.RowNames.{RowNames}
 use Rattle.saber_words.specs.Commands.{Asked, run, check, demo, chain, AskedRun, command_of}
 use Rattle.saber_plan.specs.Files.{input_of}
 use Rattle.saber_cli.specs.Demo.{summary_of_run, tasks_of_run}
@@ -21,6 +22,10 @@ Contents = List (List ℕ × List ℕ)
 -- the names of the row files of a run, in the order in which they are opened
 abbrev pub row_names : AskedRun → List (List ℕ)
 row_names r = r.left ∷ option_to_list r.right
+
+-- those that a command has
+abbrev pub rows_named : RowNames → List (List ℕ)
+rows_named n = n.left.now ∷ option_to_list (option_map (λ name. name.now) n.right)
 
 -- the run of the first query of a chain, over its row files
 abbrev pub first_run : AskedChain → AskedRun

@@ -13,11 +13,10 @@ ghost use Rattle.saber_cli.specs.Answered.{AnsweredOver};
 ghost use Rattle.saber_cli.specs.Taken.{CutLeavesWhole};
 ghost use Rattle.saber_cli.specs.Writes.{WritesOver};
 
-use saber_engine::{Inputs, Ran as Engine, RunEnd, engine};
+use saber_engine::{Inputs, Means, Ran as Engine, RunEnd, engine};
 use saber_io::{Gate, Sink, Source};
 use saber_notes::{InputFile, Outcome};
 use saber_plan::{Plan, Side, Sizes};
-use std::alloc::Global;
 use std::sync::Wait;
 use std::thread::Threads;
 
@@ -58,13 +57,11 @@ pub fn outcome_of(end: RunEnd, ring: u32) -> Outcome
 
 /// Runs the plan over the sources, as many as its streams.
 pub(crate) fn answer<S: Source, K: Sink + Send, G: Gate + Sync, R: Threads + Wait + Sync>(
-    rt: &R,
-    alloc: Global,
+    means: &Means<'_, G, R>,
     plan: &Plan,
     inputs: &mut Inputs<S>,
     sink: K,
     sizes: &Sizes,
-    gate: &G,
 ) -> Ran<K>
     requires checked { IsChecked (tree_of plan.now) }
     requires inputs { length (each_input S.left inputs.old) ≡ length (tree_of plan.now).streams }
@@ -87,7 +84,7 @@ pub(crate) fn answer<S: Source, K: Sink + Send, G: Gate + Sync, R: Threads + Wai
         sink,
         tasks,
         ..
-    } = engine(rt, alloc, plan, inputs, sink, sizes, gate);
+    } = engine(means.rt, means.alloc, plan, inputs, sink, sizes, means.gate);
     Ran {
         outcome: outcome_of(end, sizes.ring),
         sink,

@@ -16,11 +16,11 @@ ghost use Rattle.saber_cli.specs.Endings.{ReadFaultsRose, chained_as, unless_cut
 ghost use Rattle.saber_cli.specs.Chaining.{RunsChainSo};
 
 use crate::answer::outcome_of;
-use saber_chain::{Chained, Inputs, RunEnd, Stopped, chain};
+use saber_chain::{Chained, Inputs, Plans, RunEnd, Stopped, chain};
+use saber_engine::Means;
 use saber_io::{Gate, Sink, Source};
 use saber_notes::Outcome;
-use saber_plan::{Plan, Sizes};
-use std::alloc::Global;
+use saber_plan::Sizes;
 use std::sync::Wait;
 use std::thread::Threads;
 
@@ -93,26 +93,23 @@ pub(crate) fn answer_chain<
     G: Gate + Sync,
     R: Threads + Wait + Sync,
 >(
-    rt: &R,
-    alloc: Global,
-    first: &Plan,
-    second: &Plan,
+    means: &Means<'_, G, R>,
+    plans: &Plans,
     inputs: Inputs<S>,
     sink: K,
     sizes: &Sizes,
-    gate: &G,
 ) -> RanBoth<S, K>
-    requires first { IsChecked (tree_of first.now) }
-    requires inputs { length (each_input S.left inputs) ≡ length (tree_of first.now).streams }
-    requires second { IsChecked (tree_of second.now) }
-    requires one { length (tree_of second.now).streams ≡ 1 }
+    requires first { IsChecked (tree_of plans.now.first) }
+    requires inputs { length (each_input S.left inputs) ≡ length (tree_of plans.now.first).streams }
+    requires second { IsChecked (tree_of plans.now.second) }
+    requires one { length (tree_of plans.now.second).streams ≡ 1 }
     requires sizes { SizesFit sizes.now }
     requires open_end { sizes.now.flush ≡ false }
 
     // The outcome goes by how each ended, and by whether the stage was stopped, as the second run
     // tells it.
-    ensures runs { RunsChainSo (tree_of first.now) (tree_of second.now) sizes.now
-        (LeavesWhole (tree_of first.now) sizes.now (each_input S.left inputs) (each_input S.left result.inputs)) (told_by S.left inputs) (seen_of K.written K.writes sink) (seen_of K.written K.writes result.sink) result.outcome result.tasks
+    ensures runs { RunsChainSo (tree_of plans.now.first) (tree_of plans.now.second) sizes.now
+        (LeavesWhole (tree_of plans.now.first) sizes.now (each_input S.left inputs) (each_input S.left result.inputs)) (told_by S.left inputs) (seen_of K.written K.writes sink) (seen_of K.written K.writes result.sink) result.outcome result.tasks
         result.stopped }
     ensures kinds { IsOfChain result.outcome }
     ensures opened { IsOpened result.outcome }
@@ -130,7 +127,15 @@ pub(crate) fn answer_chain<
         sink,
         first_tasks: _,
         tasks,
-    } = chain(rt, alloc, first, second, inputs, sink, sizes, gate);
+    } = chain(
+        means.rt,
+        means.alloc,
+        plans,
+        inputs,
+        sink,
+        sizes,
+        means.gate,
+    );
     let stopped = stopped_of(&second_stopped);
     RanBoth {
         outcome: chained_as(first_end, second_end, stopped, sizes.ring),

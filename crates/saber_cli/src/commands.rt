@@ -1,11 +1,10 @@
 // Each command over its files.
-ghost use Rattle.std.specs.Prelude.{◌≡◌, ◌≢◌, ℕ, List, IfSome, length};
+ghost use Rattle.std.specs.Prelude.{◌≡◌, ◌≢◌, ℕ, List, IfSome};
 ghost use Rattle.saber_plan.specs.Outputs.{Rose, appended_text};
 ghost use Rattle.saber_words.specs.declared.commands.Command.{Command};
-ghost use Rattle.saber_words.specs.Commands.{asked_command, asked_run, AskedRun, run, IsSized};
+ghost use Rattle.saber_words.specs.Commands.{asked_command, AskedRun, run, IsSized};
 ghost use Rattle.saber_notes.specs.declared.outcome.Outcome.{Outcome};
 ghost use Rattle.saber_cli.specs.Outcomes.{IsClean, IsFileFault, IsBeforeRun, IsOfSecond};
-ghost use Rattle.saber_cli.specs.Due.{row_names};
 ghost use Rattle.saber_cli.specs.Gives.{Gives};
 ghost use Rattle.saber_cli.specs.Leaving.{LeavesTold};
 ghost use Rattle.saber_cli.specs.Taken.{TakesTold};
@@ -14,25 +13,16 @@ ghost use Rattle.saber_cli.specs.Writes.{WritesTold};
 use crate::answer::Ran;
 use crate::plans::planned;
 use crate::queries::query_text;
+use crate::row_files::file_count;
 use crate::runs::run_rows;
 use crate::shows::put_text;
-use crate::sizes::sizes_of;
+use saber_engine::Means;
 use saber_io::{Files, Gate, Sink};
 use saber_notes::Outcome;
 use saber_words::{Check, Run};
 use std::alloc::Global;
 use std::sync::Wait;
 use std::thread::Threads;
-
-// How many row files a command names.
-fn file_count(command: &Run<'_>) -> u64
-    ensures { result ≡ length (row_names (asked_run command.now)) }
-{
-    match command.right {
-        None => 1,
-        Some(_) => 2,
-    }
-}
 
 /// `run`: reads and checks the query, and answers it over its row files.
 pub(crate) fn run_command<F: Files, K: Sink + Send, G: Gate + Sync, R: Threads + Wait + Sync>(
@@ -78,7 +68,7 @@ pub(crate) fn run_command<F: Files, K: Sink + Send, G: Gate + Sync, R: Threads +
         }
     };
     let streams = plan.streams().len() as u64;
-    let given = file_count(command);
+    let given = file_count(&command.rows);
     if streams != given {
         return Ran {
             outcome: Outcome::FileCount {
@@ -89,8 +79,8 @@ pub(crate) fn run_command<F: Files, K: Sink + Send, G: Gate + Sync, R: Threads +
             tasks: 0,
         };
     }
-    let sizes = sizes_of(command);
-    run_rows(rt, alloc, &plan, files, command, sink, &sizes, gate)
+    let means = Means { rt, alloc, gate };
+    run_rows(&means, &plan, files, &command.rows, sink, &command.sizes)
 }
 
 /// `check`: reads and checks the query, and writes its text.

@@ -1,7 +1,6 @@
 // The command `demo`: a run over generated rows, and the summary of its answer.
-ghost use Rattle.std.specs.Prelude.{◌≡◌, ◌≢◌, ◌^◌, ◌↔◌, false, IsTrue};
+ghost use Rattle.std.specs.Prelude.{◌≡◌, ◌≢◌, ◌↔◌, IsTrue};
 ghost use Rattle.saber_plan.specs.Outputs.{raised_by, raised_count, Rose};
-ghost use Rattle.saber_plan.specs.Sizes.{SizesFit};
 ghost use Rattle.saber_words.specs.declared.commands.Command.{Command};
 ghost use Rattle.saber_words.specs.Commands.{asked_command, IsSized};
 ghost use Rattle.saber_words.specs.Demo.{asked_demo};
@@ -16,7 +15,6 @@ use saber_demo::{Generated, TextSink, demo_plan, summary};
 use saber_engine::{Inputs, Ran as Engine, RunEnd, engine};
 use saber_io::{Gate, Sink};
 use saber_notes::Outcome;
-use saber_plan::Sizes;
 use saber_words::Demo;
 use std::alloc::Global;
 use std::sync::Wait;
@@ -28,27 +26,6 @@ struct Answer {
     text: TextSink,
     tasks: u64,
     whole: bool,
-}
-
-// The sizes that a command asks for. There are fewer rows than a file may have lines.
-fn demo_sizes(command: &Demo) -> Sizes
-    requires { IsSized (asked_command (Command.Demo command.now)) }
-    ensures task { result.task ≡ command.now.task }
-    ensures ring { result.ring ≡ command.now.ring }
-    ensures threads { result.threads ≡ command.now.threads }
-    ensures lines { result.max_lines ≡ 2 ^ 40 }
-    ensures slack { result.slack ≡ 0 }
-    ensures flush { result.flush ≡ false }
-    ensures fit { SizesFit result }
-{
-    Sizes {
-        task: command.task,
-        ring: command.ring,
-        threads: command.threads,
-        max_lines: 1_099_511_627_776,
-        slack: 0,
-        flush: false,
-    }
 }
 
 // Whether the run came to its end. Of generated rows none is refused, none can't be read, and no
@@ -88,13 +65,12 @@ fn run_generated<G: Gate + Sync, R: Threads + Wait + Sync>(
     };
     let rows = Generated::new(u64::from(command.seed), u64::from(command.rows));
     let mut inputs = Inputs::One(rows);
-    let sizes = demo_sizes(command);
     let Engine {
         end,
         sink,
         tasks,
         ..
-    } = engine(rt, alloc, &plan, &mut inputs, text, &sizes, gate);
+    } = engine(rt, alloc, &plan, &mut inputs, text, &command.sizes, gate);
     Answer {
         text: sink,
         tasks,

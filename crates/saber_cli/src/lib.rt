@@ -4,7 +4,7 @@
 //! rests on.
 //!
 //! - Parts, from the top: `top`, `words` (words to command), `commands` (a run, a check), `queries`
-//!   and `texts` (the query file), `shows` (the text of a checked query), `plans`, `sizes`, `runs`
+//!   and `texts` (the query file), `shows` (the text of a checked query), `plans`, `runs`
 //!   (a run over the row files), `chains`, `query_plans` (the plans of a chain, and whether they
 //!   chain), `chain_answer` (the chain over sources), `demo`, `puts` (a text goes out), `row_files`
 //!   (they are opened and given back), `answer` (the engine over them).
@@ -33,7 +33,6 @@ mod query_plans;
 mod row_files;
 mod runs;
 mod shows;
-mod sizes;
 mod texts;
 mod top;
 mod words;

@@ -8,7 +8,7 @@ ghost use Rattle.saber_plan.specs.Answers.{frame};
 ghost use Rattle.saber_words.specs.Chain.{asked_chain};
 ghost use Rattle.saber_notes.specs.declared.outcome.InputFile.{InputFile};
 ghost use Rattle.saber_cli.specs.Outcomes.{IsClean, IsFileFault, IsOfPlan, IsOfPlans};
-ghost use Rattle.saber_cli.specs.Due.{IsLike, first_run, row_names, IsPlanned};
+ghost use Rattle.saber_cli.specs.Due.{IsLike, first_run, IsPlanned};
 ghost use Rattle.saber_cli.specs.Uses.{Uses, KeepsFaults, outcome_of};
 ghost use Rattle.saber_cli.specs.Chained.{HasPlansTold, HasReason, IsChainable, MayBeFirst};
 ghost use Rattle.saber_words.specs.Commands.{chain};
@@ -17,6 +17,8 @@ ghost use Rattle.saber_cli.specs.Chaining.{BothRead, IsMisfit, LacksPlan, MayNot
 
 use crate::plans::planned;
 use crate::queries::query_text;
+use crate::row_files::file_count;
+use saber_chain::Plans;
 use saber_io::Files;
 use saber_notes::{InputFile, Outcome};
 use saber_plan::{Plan, Shape};
@@ -105,23 +107,6 @@ fn misfit(first: &Plan, second: &Plan, files: u64) -> Option<Outcome>
     None
 }
 
-// How many row files a chain names.
-fn file_count(command: &Chain<'_>) -> u64
-    ensures { result ≡ length (row_names (first_run (asked_chain command.now))) }
-{
-    match command.right {
-        None => 1,
-        Some(_) => 2,
-    }
-}
-
-/// The plans of a chain's queries.
-#[derive(Drop)]
-pub(crate) struct Plans {
-    pub(crate) first: Plan,
-    pub(crate) second: Plan,
-}
-
 /// Reads and checks the first query and then the second one, and whether they chain over the row
 /// files that are named.
 pub(crate) fn chain_plans<F: Files>(
@@ -153,7 +138,7 @@ pub(crate) fn chain_plans<F: Files>(
             return Err(as_second(outcome));
         }
     };
-    match misfit(&first, &second, file_count(command)) {
+    match misfit(&first, &second, file_count(&command.rows)) {
         None => Ok(Plans { first, second }),
         Some(outcome) => {
             first.let_go();

@@ -1,8 +1,7 @@
 // The top call.
-ghost use Rattle.std.specs.Prelude.{◌≡◌, ◌≢◌, map};
-ghost use Rattle.saber_plan.specs.Outputs.{Rose, appended_text, raised_count, AppendsPrefix};
+ghost use Rattle.std.specs.Prelude.{◌≡◌, map};
 ghost use Rattle.saber_notes.specs.Notes.{status_of, note_of};
-ghost use Rattle.saber_notes.specs.declared.note.Noted.{Noted};
+ghost use Rattle.saber_notes.specs.Told.{TellsNotes};
 ghost use Rattle.saber_cli.specs.Unread.{unread};
 ghost use Rattle.saber_cli.specs.Says.{SaysSaber};
 
@@ -80,14 +79,7 @@ pub struct Refused {
 /// text, and so no word of a command. Nothing is opened, and nothing goes out but the note.
 pub fn refuse_words<N: Sink>(fault: WordsFault, notes: &mut N) -> Refused
     ensures status { result.status ≡ status_of (unread fault) }
-    ensures something { result.noted ≢ Noted.Nothing }
-    ensures whole { result.noted ≡ Noted.Whole → N.written notes.new ≡ appended_text (N.written notes.old) (note_of (unread fault)) }
-    ensures failed { result.noted ≡ Noted.Failed → AppendsPrefix (N.written notes.old) (N.written notes.new) (note_of (unread fault)) }
-    ensures memory { result.noted ≡ Noted.NoMemory → N.written notes.new ≡ N.written notes.old }
-    ensures note { result.noted ≡ Noted.Failed → Rose (N.faults notes.old) (N.faults notes.new) }
-    ensures note_good { result.noted ≢ Noted.Failed → N.faults notes.new ≡ N.faults notes.old }
-    ensures one { result.noted ≢ Noted.NoMemory → N.writes notes.new ≡ raised_count (N.writes notes.old) }
-    ensures none { result.noted ≡ Noted.NoMemory → N.writes notes.new ≡ N.writes notes.old }
+    ensures notes { TellsNotes N.written N.faults N.writes notes.old notes.new result.status result.noted (note_of (unread fault)) }
 {
     let outcome = unread(fault);
     let noted = write_note(notes, outcome);

@@ -1,5 +1,5 @@
 -- Filling one task after another.
-use Rattle.std.proofs.Common.{◌≡◌, true, ℕ, ◌+◌, ◌-◌, ◌≤◌, ◌<◌, [], ◌∷◌, ◌++◌, length, sym, ◌∙◌, ap, subst, length-append, le_trans, arith}
+use Rattle.std.proofs.Common.{◌≡◌, true, ℕ, ◌+◌, ◌-◌, ◌≤◌, ◌<◌, [], ◌∷◌, ◌++◌, length, sym, ◌∙◌, ap, subst, length-append, arith}
 use mathlib.Core.Logic.{dite}
 use native.Mathlib.Decide.{ℕ_discrete}
 use Rattle.std.specs.Prelude.{Option, Some, None, slice_index}
@@ -15,16 +15,8 @@ use Rattle.saber_ring.specs.Freeing.{IsSlid}
 use Rattle.saber_crew.specs.declared.dispatch.Dispatched.{Dispatched}
 use Rattle.saber_crew.specs.declared.dispatch.Over.TheVariants.{AllGiven}
 use Rattle.saber_crew.specs.Supplies.{GivesRows}
-use Rattle.saber_workers.specs.Seats.{WorksOn}
-use Rattle.saber_crew.specs.Dispatches.{FillsOn, Puts, AllDispatched, DispatchedTo, AreFrees}
-
-module _ {T : Type 0} where
-  pub then_fills : (a b c : View T) → FillsOn a b → FillsOn b c → FillsOn a c
-  then_fills a b c f g = record { base = g.base ∙ f.base; seen = le_trans f.seen g.seen }
-
-  -- a turn of work fills nothing
-  pub works_fills : (a b : View T) → WorksOn a b → FillsOn a b
-  works_fills a b w = record { base = w.base; seen = w.seen }
+use Rattle.saber_crew.specs.Leaders.{CanFill}
+use Rattle.saber_crew.specs.Dispatches.{Puts, AllDispatched, DispatchedTo, AreFrees}
 
 module _ {T R : Type 0} (is_told : T → ℕ → Type 0) (filled : T → R → T) (upto : T → ℕ → T) (is_rows : T → ℕ → R → Type 0)
     (keeps : (told : T) (d k : ℕ) (rows : R) → is_told told d → is_told (filled told rows) (d + 1) → is_rows (filled told rows) d rows → k ≤ d → upto (filled told rows) k ≡ upto told k)
@@ -139,3 +131,13 @@ module _ {T : Type 0} (is_told : T → ℕ → Type 0) (upto : T → ℕ → T) 
   pub covers_on : (d : ℕ) (frees : Frees) (o : Option (Lead T)) (seen more : ℕ) → seen ≤ more → Covers upto first d frees seen o → Covers upto first d frees more o
   covers_on d frees None seen more up c = absurd c
   covers_on d frees (Some l) seen more up c = ((let low = c.0 in omega arith), c.1, c.2)
+
+module _ {T R : Type 0} (is_told : T → ℕ → Type 0) (filled : T → R → T) (upto : T → ℕ → T) (first : T → ℕ → ℕ) (is_rows : T → ℕ → R → Type 0) where
+  -- who may fill still may, once more is seen
+  pub can_fill_on : (t : ℕ) (rows : R) (frees : Frees) (v w : View T) → v.seen ≤ w.seen → w.lead ≡ v.lead
+      → CanFill is_told filled upto first is_rows t rows frees v → CanFill is_told filled upto first is_rows t rows frees w
+  can_fill_on t rows frees v w up same c = record {
+    next = subst (FillsNext is_told filled is_rows t rows) (sym same) c.next;
+    below = c.below;
+    covered = subst (Covers upto first t frees w.seen) (sym same) (covers_on is_told upto first t frees v.lead v.seen w.seen up c.covered);
+  }

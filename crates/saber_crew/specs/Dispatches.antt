@@ -1,17 +1,12 @@
 -- What the first seat has filled.
-use Rattle.std.specs.Prelude.{◌≡◌, ◌<◌, ◌≤◌, ℕ, ◌+◌, ◌-◌, Bool, true, false, length, slice_index, Option, Some, None}
+use Rattle.std.specs.Prelude.{◌≡◌, ◌^◌, ◌<◌, ◌≤◌, ℕ, ◌+◌, ◌-◌, Bool, true, false, length, slice_index, Option, Some, None}
 use Rattle.saber_ring.specs.declared.view.View.{View}
 use Rattle.saber_ring.specs.declared.view.Lead.{Lead}
 use Rattle.saber_ring.specs.declared.frees.Frees.{Frees}
 use Rattle.saber_ring.specs.Plays.{more_filled}
 use Rattle.saber_ring.specs.Shows.{first_of_task}
 use Rattle.saber_crew.specs.declared.dispatch.Dispatched.{Dispatched}
-use Rattle.saber_crew.specs.declared.dispatch.Over.TheVariants.{AllGiven}
-
--- a seat that fills keeps the fixed data, and what it saw behind the stage stays behind it
-pub record FillsOn {T : Type 0} (v w : View T) : Type 0 where
-  pub base : w.base ≡ v.base
-  pub seen : v.seen ≤ w.seen
+use Rattle.saber_crew.specs.declared.dispatch.Over.TheVariants.{AllGiven, Stopped}
 
 module _ {T R : Type 0} (filled : T → R → T) where
   -- one task more was filled, or none
@@ -47,6 +42,14 @@ module _ {T : Type 0} (is_told : T → ℕ → Type 0) (upto : T → ℕ → T) 
     abbrev pub DispatchedTo : Dispatched → Option (Lead T) → Option (Lead T) → Type 0
     DispatchedTo dispatched (Some l) (Some m) = (m.filled ≡ dispatched.tasks) × (m.out ≡ l.out) × is_told m.told dispatched.tasks × AreFirst (upto l.told 0) dispatched m.told
     DispatchedTo dispatched _ _ = ⊥
+
+    -- So it ended: the fixed data stay, the first tasks are filled, a stop that ended it was seen, and so many helpers were asked for.
+    pub record EndsDispatch (v w : View T) (helpers : ℕ) (dispatched : Dispatched) : Type 0 where
+      pub base : w.base ≡ v.base
+      pub filled : DispatchedTo dispatched v.lead w.lead
+      pub few : dispatched.tasks ≤ 2 ^ 42
+      pub stops : dispatched.over ≡ Stopped → w.stopped ≡ true
+      pub asked : dispatched.helpers ≡ helpers
 
 module _ {T : Type 0} (upto : T → ℕ → T) (first : T → ℕ → ℕ) where
   -- the list tells the first block that each task needs, from its first one to the n-th

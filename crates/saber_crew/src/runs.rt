@@ -4,13 +4,14 @@ ghost use Rattle.saber_crew.specs.Runs.{BeginsRun, RunsOver};
 
 use crate::crew::crew;
 use crate::dispatch::Dispatched;
+use crate::leader::Leader;
+use crate::means::Means;
 use crate::supply::Supply;
 use saber_core::Work;
 use saber_io::Gate;
 use saber_plan::Sizes;
 use saber_ring::{FixedData, Ring, Seat};
 use saber_workers::{Bench, Labor};
-use std::alloc::Global;
 use std::sync::Wait;
 use std::sync::atomic::AtomicBool;
 use std::thread::Threads;
@@ -25,10 +26,8 @@ pub fn run<
     J: FixedData<W::Data>,
     R: Threads + Wait + Sync,
 >(
-    rt: &R,
-    alloc: Global,
+    means: &Means<'_, G, R>,
     op: &L,
-    gate: &G,
     supply: &mut P,
     from: &mut P::From,
     stage: W::Stage,
@@ -45,28 +44,30 @@ where
     ensures helpers { IfOk result (λ r. r.1.helpers ≡ sizes.now.threads) }
     ensures refused { IfErr result (λ back. (back ≡ stage) × (supply.new ≡ supply.old) × (from.new ≡ from.old)) }
 {
-    let (ring, mut seat) = match Ring::<W>::new::<J>(alloc, sizes.ring, stage) {
+    let (ring, seat) = match Ring::<W>::new::<J>(means.alloc, sizes.ring, stage) {
         Ok(made) => made,
         Err((_, stage)) => return Err(stage),
     };
     let stop = AtomicBool::new(false);
     let bench = Bench {
-        rt,
-        alloc,
+        rt: means.rt,
+        alloc: means.alloc,
         ring: &ring,
         op,
-        gate,
+        gate: means.gate,
         stop: &stop,
     };
+    let mut leader = Leader::new(&bench, seat);
     let dispatched = crew::<W, L, G, P, Seat<W>, R>(
         &bench,
+        &mut leader,
         sizes.threads,
-        &mut seat,
         supply,
         from,
         sizes.threads == 0,
         0,
     );
+    let mut seat = leader.into_seat();
     bench.work_alone(&mut seat, dispatched.tasks);
     let Bench {
         rt: _,

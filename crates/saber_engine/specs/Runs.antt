@@ -16,7 +16,10 @@ use Rattle.saber_engine.specs.FedRuns.{GivesFed, WritesFed, CutLeavesWhole}
 use Rattle.saber_engine.specs.Endings.{MayStop}
 
 module _ {S K : Type 0} (left : S → Option (List ℕ)) (faults : S → ℕ) (written : K → Option (List ℕ)) (failed made : K → ℕ) where
-  -- over inputs
+  -- Over inputs. What goes out is the text of the first tasks' rows: with all read, or a line refused, of all tasks, and of those before one
+  -- that is too wide for the ring. There is one write for each of them that has text, and one more where it failed. A fault of reading leaves
+  -- at least every whole task assembled of what was taken; what inputs have left are ends of what they had. Faults are real, none is passed
+  -- over, and no count falls. The stage was stopped where a write failed, maybe where memory lacked, and at no other end.
   pub record RunsPlan (q : Tree) (s : Sizes) (had has : Inputs S) (sink : K) (ran : Ran K) : Type 0 where
     pub gives : GivesTold q s (told_by left had) (written sink) (written ran.sink) ran.end ran.tasks
     pub one_write : WritesTold q s (told_by left had) (made sink) (made ran.sink) ran.end ran.tasks
@@ -31,7 +34,9 @@ module _ {S K : Type 0} (left : S → Option (List ℕ)) (faults : S → ℕ) (w
     pub stopped : MayStop ran.end ran.stopped
 
 module _ {F K : Type 0} (taken : F → List ℕ) (mark : F → Option EndMark) (faults : F → ℕ) (written : K → Option (List ℕ)) (failed made : K → ℕ) where
-  -- over a feed
+  -- Over a feed, and each file that goes on from what was taken of it, and is this where the feed ended. All is read only where the feed has
+  -- ended, and it can't be read only where it was cut off; a feed that is cut off leaves at least every whole task assembled. The rest is as
+  -- over inputs.
   pub record RunsFed (q : Tree) (s : Sizes) (had has : F) (sink : K) (ran : Ran K) : Type 0 where
     pub gives : GivesFed q s (taken has) (mark has) (written sink) (written ran.sink) ran.end ran.tasks
     pub one_write : WritesFed q s (taken has) (mark has) (made sink) (made ran.sink) ran.end ran.tasks

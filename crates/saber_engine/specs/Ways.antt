@@ -3,8 +3,8 @@ use Rattle.saber_plan.specs.declared.plans.Plan.{Plan}
 use Rattle.saber_plan.specs.Answers as defined
 use Rattle.saber_plan.specs.Trees.{Tree, tree_of}
 use Rattle.saber_changes.specs.Counts.{change_of}
-use Rattle.saber_either.specs.declared.one_of.OneOf.{OneOf}
-use Rattle.saber_either.specs.Cases.{of_one}
+use Rattle.saber_fragment.specs.declared.one_of.OneOf.{OneOf}
+use Rattle.saber_fragment.specs.Cases.{of_one}
 use Rattle.saber_engine.specs.declared.ways.Way.{Way}
 use Rattle.saber_engine.specs.declared.ways.Way.TheVariants.{Alike, ByList, Changing}
 

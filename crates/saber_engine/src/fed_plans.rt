@@ -8,11 +8,10 @@ use crate::ends::{Ran, ended};
 use crate::fed_blocks::{BeginsFed, FedBlocks};
 use crate::ring_size::ring_size;
 use saber_assembly::{SaberWork, Stage};
-use saber_crew::{Over, run};
+use saber_crew::{Means, Over, run};
 use saber_fragment::Operator;
 use saber_io::{Feed, Gate, Pour};
 use saber_plan::{Plan, Sizes};
-use std::alloc::Global;
 use std::marker::Brand;
 use std::sync::Wait;
 use std::thread::Threads;
@@ -27,14 +26,12 @@ pub(crate) fn run_fed<
     J: BeginsFed,
     R: Threads + Wait + Sync,
 >(
-    rt: &R,
-    alloc: Global,
+    means: &Means<'_, G, R>,
     operator: &O,
     plan: &Plan,
     feed: &mut F,
     sink: K,
     sizes: &Sizes,
-    gate: &G,
 ) -> Ran<K>
 where
     O::Draft: Send,
@@ -48,16 +45,15 @@ where
     ensures { RunsFed F.taken F.mark F.faults K.written K.faults K.writes (tree_of plan.now) sizes.now feed.old feed.new sink result }
 {
     let ring = ring_size(plan, sizes);
+    let alloc = means.alloc;
     let stage = Stage::new(alloc, operator, sink);
     let Ok(begun) = FedBlocks::<F, J>::new(alloc, plan, sizes) else {
         return ended(stage, Over::NoMemory, None);
     };
     let mut blocks = begun;
     let ran = run::<SaberWork<O, K>, O, G, FedBlocks<F, J>, Brand, R>(
-        rt,
-        alloc,
+        means,
         operator,
-        gate,
         &mut blocks,
         feed,
         stage,

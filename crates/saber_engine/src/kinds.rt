@@ -4,19 +4,18 @@ ghost use Rattle.std.specs.List.{AllByRecursion, AllZip};
 ghost use Rattle.saber_plan.specs.declared.plans.Shape.TheVariants as shapes;
 ghost use Rattle.saber_plan.specs.Checked.{IsChecked};
 ghost use Rattle.saber_plan.specs.Trees.{tree_of};
-ghost use Rattle.saber_either.specs.Cases.{of_one};
+ghost use Rattle.saber_fragment.specs.Cases.{of_one};
 ghost use Rattle.saber_engine.specs.Jobs.{tree_in};
 ghost use Rattle.saber_engine.specs.Ways.{tree_by};
 
 use crate::jobs::Job;
 use crate::ways::{Way, way_of};
-use saber_either::OneOf;
+use saber_fragment::OneOf;
 use saber_group::GroupOperator;
 use saber_join::JoinOperator;
 use saber_partition::Partition;
 use saber_plan::{NoMemory, Plan, Shape};
-use saber_select::Select;
-use saber_windowed::WindowedOperator;
+use saber_select::{Select, WindowedOperator};
 use std::alloc::Global;
 use std::collections::VecDeque;
 

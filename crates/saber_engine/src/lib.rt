@@ -10,13 +10,13 @@
 //!   back with how the run ended and how many tasks are assembled; `engine_pouring` takes a sink
 //!   that may hold bytes back, `engine_fed` a feed in place of sources; `engines` takes several
 //!   plans of one stream, each with its sink, and reads their one input once.
-//! - Proved (`specs/Gives.antt`): over files that tell their bytes the sink holds the text of the
-//!   first tasks' rows: of all where all was read or a line refused, of those before the first task
-//!   that is too wide; after a failed read at least of every whole task; after a failed write a
-//!   front of the next task's text too. There was one write for each of these tasks that has text,
-//!   and one more where it failed. Every fault is real, and none is passed over. Over a feed
-//!   the same holds for every file that goes on from what was taken (`specs/FedRuns.antt`). Of
-//!   several plans each has all that a run of it alone has.
+//! - Proved (`specs/Runs.antt` has each fact, `specs/Gives.antt` what they say): over files that
+//!   tell their bytes the sink holds the text of the first tasks' rows: of all where all was read or
+//!   a line refused, of those before the first task that is too wide; after a failed read at least
+//!   of every whole task; after a failed write a front of the next task's text too. There was one
+//!   write for each of these tasks that has text, and one more where it failed. Every fault is real,
+//!   and none is passed over. Over a feed the same holds for every file that goes on from what was
+//!   taken (`specs/FedRuns.antt`). Of several plans each has all that a run of it alone has.
 //! - Not claimed: time, progress of threads, or a cause for want of memory. Over one stream the
 //!   ring may have fewer cells than `--ring` says (`ring_size.rt`); no public contract speaks of
 //!   it.
@@ -45,5 +45,6 @@ pub use fed_engine::engine_fed;
 pub use jobs::Job;
 pub use run_engine::{engine, engine_pouring};
 pub use run_engines::engines;
+pub use saber_crew::Means;
 pub use saber_dispatch::Inputs;
 pub use saber_plan::RunEnd;

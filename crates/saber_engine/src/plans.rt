@@ -9,12 +9,11 @@ use crate::blocks::{Begins, Blocks};
 use crate::ends::{Ran, ended};
 use crate::ring_size::ring_size;
 use saber_assembly::{SaberWork, Stage};
-use saber_crew::{Over, run};
+use saber_crew::{Means, Over, run};
 use saber_dispatch::Inputs;
 use saber_fragment::Operator;
 use saber_io::{Gate, Pour, Source};
 use saber_plan::{Plan, Sizes};
-use std::alloc::Global;
 use std::marker::Brand;
 use std::sync::Wait;
 use std::thread::Threads;
@@ -29,14 +28,12 @@ pub(crate) fn run_plan<
     J: Begins,
     R: Threads + Wait + Sync,
 >(
-    rt: &R,
-    alloc: Global,
+    means: &Means<'_, G, R>,
     operator: &O,
     plan: &Plan,
     inputs: &mut Inputs<S>,
     sink: K,
     sizes: &Sizes,
-    gate: &G,
 ) -> Ran<K>
 where
     O::Draft: Send,
@@ -49,16 +46,15 @@ where
     ensures { RunsPlan S.left S.faults K.written K.faults K.writes (tree_of plan.now) sizes.now inputs.old inputs.new sink result }
 {
     let ring = ring_size(plan, sizes);
+    let alloc = means.alloc;
     let stage = Stage::new(alloc, operator, sink);
     let Ok(begun) = Blocks::<S, J>::new(alloc, plan, sizes) else {
         return ended(stage, Over::NoMemory, None);
     };
     let mut blocks = begun;
     let ran = run::<SaberWork<O, K>, O, G, Blocks<S, J>, Brand, R>(
-        rt,
-        alloc,
+        means,
         operator,
-        gate,
         &mut blocks,
         inputs,
         stage,

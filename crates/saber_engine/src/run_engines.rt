@@ -13,6 +13,7 @@ use crate::jobs::{Job, counts_for};
 use crate::kinds::{AnyOperator, operators_for};
 use crate::shared_run::run_each;
 use crate::spare::keep_freed;
+use saber_crew::Means;
 use saber_dispatch::Inputs;
 use saber_io::{Gate, Pour, Source};
 use saber_many::Each;
@@ -74,8 +75,9 @@ pub fn engines<'p, S: Source, K: Pour + Send, G: Gate + Sync, R: Threads + Wait 
         list: Vec::from(operators),
         stopped,
     };
+    let means = Means { rt, alloc, gate };
     let result = run_each::<S, AnyOperator<'p>, K, G, Brand, R>(
-        rt, alloc, &each, &counts, jobs, inputs, sizes, gate,
+        &means, &each, &counts, jobs, inputs, sizes,
     );
     let Each {
         list: _list,

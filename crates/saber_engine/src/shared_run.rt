@@ -16,13 +16,12 @@ use crate::jobs::{Job, begin_all, end_all, rooms};
 use crate::last_task::{last_block, take_last};
 use crate::ring_size::near_size;
 use saber_assembly::{SaberWork, Stage};
-use saber_crew::{Over, run};
+use saber_crew::{Means, Over, run};
 use saber_dispatch::Inputs;
 use saber_fragment::Operator;
 use saber_io::{Gate, Pour, Source};
 use saber_many::{Each, Many, Member};
 use saber_plan::Sizes;
-use std::alloc::Global;
 use std::collections::VecDeque;
 use std::marker::Brand;
 use std::sync::Wait;
@@ -44,6 +43,14 @@ fn sizes_for(sizes: &Sizes, count: usize) -> Sizes
     }
 }
 
+// What queries have before they begin: room for their stages, and for how they end, and their
+// blocks.
+struct Begun<S, J, T, K> {
+    members: VecDeque<Member<Stage<T, K>>>,
+    rans: VecDeque<Ran<K>>,
+    dealt: Dealt<S, J>,
+}
+
 // Runs them over blocks that are dealt to each, of which none was given.
 fn run_dealt<
     S: Source,
@@ -53,17 +60,13 @@ fn run_dealt<
     J: Begins,
     R: Threads + Wait + Sync,
 >(
-    rt: &R,
-    alloc: Global,
+    means: &Means<'_, G, R>,
     operators: &Each<O>,
     counts: &[bool],
     jobs: Vec<Job<'_, K>>,
-    members: VecDeque<Member<Stage<O::Store, K>>>,
-    rans: VecDeque<Ran<K>>,
-    dealt: Dealt<S, J>,
+    begun: Begun<S, J, O::Store, K>,
     inputs: &mut Inputs<S>,
     sizes: &Sizes,
-    gate: &G,
 ) -> VecDeque<Ran<K>>
 where
     O::Draft: Send,
@@ -77,19 +80,24 @@ where
     requires sizes { SizesFit sizes.now }
     requires threads { length jobs.items * sizes.now.threads ≤ 64 }
     requires begins { (J.sizes ≡ without_end sizes.now) × (J.lefts ≡ each_input S.left inputs.old) × (J.faults ≡ each_input S.faults inputs.old) }
-    requires cuts { AllByRecursion (λ job. CutsNothing (tree_in job) (without_end sizes.now) dealt.cutter) jobs.items }
-    requires goes { end_of dealt.cutter ≡ None }
-    requires keepers { AllZip (λ job k. KeepsNone (tree_in job) k) jobs.items dealt.keepers.items }
-    requires goes_on { dealt.end ≡ None }
-    requires none { (members.items ≡ []) × (deque_len members ≡ 0) × (rans.items ≡ []) × (deque_len rans ≡ 0) }
-    requires room { (length jobs.items ≤ deque_capacity members) × (length jobs.items ≤ deque_capacity rans) }
+    requires cuts { AllByRecursion (λ job. CutsNothing (tree_in job) (without_end sizes.now) begun.dealt.cutter) jobs.items }
+    requires goes { end_of begun.dealt.cutter ≡ None }
+    requires keepers { AllZip (λ job k. KeepsNone (tree_in job) k) jobs.items begun.dealt.keepers.items }
+    requires goes_on { begun.dealt.end ≡ None }
+    requires none { (begun.members.items ≡ []) × (deque_len begun.members ≡ 0) × (begun.rans.items ≡ []) × (deque_len begun.rans ≡ 0) }
+    requires room { (length jobs.items ≤ deque_capacity begun.members) × (length jobs.items ≤ deque_capacity begun.rans) }
     ensures { AllZip (λ job ran. RunsPlan S.left S.faults K.written K.faults K.writes (tree_in job) sizes.now inputs.old inputs.new (sink_in job) ran) jobs.entry.items result.items }
 {
     let threads = sizes_for(sizes, jobs.as_slice().len());
+    let alloc = means.alloc;
+    let Begun {
+        members,
+        rans,
+        mut dealt,
+    } = begun;
     let members = begin_all(alloc, operators, jobs, members);
-    let mut dealt = dealt;
     let ran = run::<Many<SaberWork<O, K>>, Each<O>, G, Dealt<S, J>, Brand, R>(
-        rt, alloc, operators, gate, &mut dealt, inputs, members, &threads,
+        means, operators, &mut dealt, inputs, members, &threads,
     );
     match ran {
         Ok((members, fed)) => {
@@ -117,14 +125,12 @@ pub(crate) fn run_each<
     J: Begins,
     R: Threads + Wait + Sync,
 >(
-    rt: &R,
-    alloc: Global,
+    means: &Means<'_, G, R>,
     operators: &Each<O>,
     counts: &[bool],
     jobs: Vec<Job<'p, K>>,
     inputs: &mut Inputs<S>,
     sizes: &Sizes,
-    gate: &G,
 ) -> Result<VecDeque<Ran<K>>, Vec<Job<'p, K>>>
 where
     O::Draft: Send,
@@ -141,13 +147,19 @@ where
     ensures each { IfOk result (λ rans. AllZip (λ job ran. RunsPlan S.left S.faults K.written K.faults K.writes (tree_in job) sizes.now inputs.old inputs.new (sink_in job) ran) jobs.entry.items rans.items) }
     ensures refused { IfErr result (λ back. (back ≡ jobs.entry) × (inputs.new ≡ inputs.old)) }
 {
+    let alloc = means.alloc;
     let Ok((members, rans)) = rooms(alloc, &jobs) else {
         return Err(jobs);
     };
     match Dealt::<S, J>::new(alloc, &jobs, sizes) {
-        Ok(dealt) => Ok(run_dealt(
-            rt, alloc, operators, counts, jobs, members, rans, dealt, inputs, sizes, gate,
-        )),
+        Ok(dealt) => {
+            let begun = Begun {
+                members,
+                rans,
+                dealt,
+            };
+            Ok(run_dealt(means, operators, counts, jobs, begun, inputs, sizes))
+        }
         Err(_) => {
             members.destroy_empty();
             rans.destroy_empty();

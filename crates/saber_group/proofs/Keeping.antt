@@ -84,7 +84,7 @@ module _ (q : Tree) (shape : q.shape ≡ Group) where
 abbrev pub Goes : Tree → SliceStore → SlicePiece → Input → ℕ → ℕ → Type 0
 Goes q s p = Follows q (kept_in s) (λ u. TakenIn q u s) (λ r x y. IsOf q r x y p)
 
-pub can_take : (q t : Tree) → q ≡ t → (r : Input) (x y : ℕ) (s : SliceStore) (p : SlicePiece) (closed : ℕ) → closed ≡ closed_count (frame q) p.after → Goes t s p r x y → CanCome q s.windows p.slices.items p.complete closed
+pub can_take : (q t : Tree) → q ≡ t → (r : Input) (x y : ℕ) (s : SliceStore) (p : SlicePiece) (closed : ℕ) → closed ≡ closed_count (frame q) p.after → Goes t s p r x y → CanCome q s.windows p.slices p.complete closed
 can_take q t same r x y s p closed closed_is g =
     let f = subst (λ (u : Tree). Goes u s p r x y) (sym same) g in
     (old_rows q r x y s p (kept_in s) f, new_rows q r x y s p (kept_in s) f, (first_arrivals r y).ended, comes q r x y s p (kept_in s) f closed closed_is)
@@ -100,7 +100,7 @@ pub record Took (q : Tree) (r : Input) (x y : ℕ) (new : SliceStore) (before af
 
 module _ (q : Tree) (shape : q.shape ≡ Group) (s : SliceStore) (p : SlicePiece) (closed : ℕ) (closed_is : closed ≡ closed_count (frame q) p.after)
     (new : SliceStore) (begun : new.begun ≡ begun_count (frame q) p.after) (before after : List ℕ)
-    (went : HasCome q s.windows s.output p.slices.items p.complete closed new.windows new.output before after) where
+    (went : HasCome q s.windows s.output p.slices p.complete closed new.windows new.output before after) where
   module _ (r : Input) (x y : ℕ) (f : Goes q s p r x y) where
     abbrev old : List Row
     old = old_rows q r x y s p (kept_in s) f

@@ -11,3 +11,4 @@ pub mod PiecesTaken
 pub mod SliceKeeping
 pub mod Keeping
 pub mod Making
+pub mod SlicesGiven

@@ -20,8 +20,8 @@ piece_is_of q s r x y p made sight =
     let before : s.before ≡ mark_of old = sight.before_is ∙ ap (λ b. end_mark b (mark_of old)) sight.opens in
     record {
       opens = sight.opens;
-      given = subst (λ b. Given q old (slice_range r.rows x y) b p.slices.items p.complete) sight.ended_is
-          (subst (λ l. Given q old l s.ended p.slices.items p.complete) sight.rows_are (made.gives old fits sight.earlier_are before));
+      given = subst (λ b. Given q old (slice_range r.rows x y) b p.slices p.complete) sight.ended_is
+          (subst (λ l. Given q old l s.ended p.slices p.complete) sight.rows_are (made.gives old fits sight.earlier_are before));
       may = made.may;
       after_is = made.after_is ∙ (λ j. end_mark (sight.ended_is j) (mark_after (sight.before_is j) (sight.rows_are j))) ∙ sym (marks_follow r x y sight.rises);
     }
@@ -29,10 +29,10 @@ piece_is_of q s r x y p made sight =
 -- ---- what a task makes
 
 -- all its slices, where it answers no window
-pub slices_are_made : {E : Type 0} (q : Tree) (s : Sight) (r : Result SlicePiece E) → IfOk r (λ p. SlicesFrom q s.before s.rows 0 p.slices.items) → IfOk r (λ p. p.complete ≡ None) → IfOk r (λ p. p.after ≡ end_mark s.ended (mark_after s.before s.rows))
+pub slices_are_made : {E : Type 0} (q : Tree) (s : Sight) (r : Result SlicePiece E) → IfOk r (λ p. SlicesFrom q s.before s.rows 0 p.slices) → IfOk r (λ p. p.complete ≡ None) → IfOk r (λ p. p.after ≡ end_mark s.ended (mark_after s.before s.rows))
     → IfOk r (λ p. IsMade q s p)
 slices_are_made q s (Ok p) slices none after = record {
-  gives = λ old fits end same. subst (λ (o : Option Complete). Given q old s.rows s.ended p.slices.items o) (sym none) (subst (λ m. SlicesFrom q m s.rows 0 p.slices.items) same slices);
+  gives = λ old fits end same. subst (λ (o : Option Complete). Given q old s.rows s.ended p.slices o) (sym none) (subst (λ m. SlicesFrom q m s.rows 0 p.slices) same slices);
   after_is = after;
   may = λ c e. absurd (none_some c (sym none ∙ e));
 } where
@@ -41,7 +41,7 @@ slices_are_made q s (Ok p) slices none after = record {
 slices_are_made q s (Err e) slices none after = tt
 
 -- and what it answers, where it may
-pub pieces_are_made : {E : Type 0} (q : Tree) (s : Sight) (r : Result SlicePiece E) → way q ≡ alike → IfOk r (λ p. Gives q s.earlier s.before s.rows s.ended p.slices.items p.complete) → IfOk r (λ p. p.after ≡ end_mark s.ended (mark_after s.before s.rows))
+pub pieces_are_made : {E : Type 0} (q : Tree) (s : Sight) (r : Result SlicePiece E) → way q ≡ alike → IfOk r (λ p. Gives q s.earlier s.before s.rows s.ended p.slices p.complete) → IfOk r (λ p. p.after ≡ end_mark s.ended (mark_after s.before s.rows))
     → IfOk r (λ p. IsMade q s p)
 pieces_are_made q s (Ok p) lines gives after = record { gives = gives; after_is = after; may = λ c e. lines }
 pieces_are_made q s (Err e) lines gives after = tt

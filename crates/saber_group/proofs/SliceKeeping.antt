@@ -96,7 +96,7 @@ module _ (q : Tree) (r : Input) (x y : ℕ) (s : SliceStore) (p : SlicePiece) (k
         ∙ ap (λ l. closed_count (frame q) (end_mark (first_arrivals r y).ended (mark_of l))) (sym all_rows)
         ∙ ap (λ m. closed_count (frame q) (end_mark (first_arrivals r y).ended m)) (mark-append no_rows old_rows new_rows)
 
-    pub comes : Comes q old_rows new_rows (first_arrivals r y).ended s.windows.next s.windows.slices.entries p.slices.items p.complete closed
+    pub comes : Comes q old_rows new_rows (first_arrivals r y).ended s.windows.next s.windows.slices.entries p.slices p.complete closed
     comes = record {
       holds = f.taken_is.holds;
       low = subst₂ (λ n o. n ≤ o) (sym f.taken_is.next_is) (sym closed_end) (closed_rise (frame q) f.windows r x y f.fits.ordered f.rises);

@@ -1,8 +1,6 @@
 -- Slices that are taken in, one after another, behind the rows of earlier tasks.
-use Rattle.std.proofs.Common.{◌≡◌, ℕ, suc, ◌+◌, ◌-◌, ◌^◌, ◌≤◌, ◌<◌, List, [], ◌∷◌, ◌++◌, filter, map, length, max, take, sym, ◌∙◌, ap, subst, append-nil, arith, Global}
-use Rattle.std.proofs.lemmas.List.{map-append, nil_from_length, take_all}
-use Rattle.std.specs.Vec.Iter.{into_iter_len, into_iter_items}
-use Rattle.std.specs.declared.vec.IntoIter.{IntoIter}
+use Rattle.std.proofs.Common.{◌≡◌, ℕ, suc, ◌+◌, ◌-◌, ◌^◌, ◌≤◌, ◌<◌, List, [], ◌∷◌, ◌++◌, filter, map, length, max, take, sym, ◌∙◌, ap, subst, append-nil, arith}
+use Rattle.std.proofs.lemmas.List.{map-append, take_all}
 use Rattle.std.proofs.lemmas.List.Elements.{filter-append}
 use Rattle.std.specs.List.{AllByRecursion}
 use Rattle.saber_plan.specs.declared.rows.Row.{Row}
@@ -153,7 +151,3 @@ module _ (q : Tree) (m : Mark) (all : List Row) (o y start next : ℕ) (es : Ent
   -- once none is left, the windows below `closed` are done, and no other
   pub along_done : (new : ℕ) → new ≡ max next closed → new ≡ closed
   along_done new most = let high = a.high in omega (arith, high, most)
-
--- an iterator that gave all has nothing left
-pub all_given : {X : Type 0} (it : IntoIter X Global) → into_iter_len it ≡ 0 → into_iter_items it ≡ []
-all_given it e = nil_from_length _ (sym it.rest.ok.0 ∙ e)

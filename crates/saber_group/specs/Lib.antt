@@ -1,3 +1,4 @@
 pub mod SliceParts
 pub mod SlicePieces
 pub mod SliceStores
+pub mod SliceLists

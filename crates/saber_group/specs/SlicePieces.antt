@@ -58,13 +58,13 @@ MayAnswer q complete = (c : Complete) → complete ≡ Some c → way q ≡ alik
 
 -- the piece is made of a task's own block
 pub record IsMade (q : Tree) (s : Sight) (p : SlicePiece) : Type 0 where
-  pub gives : Gives q s.earlier s.before s.rows s.ended p.slices.items p.complete
+  pub gives : Gives q s.earlier s.before s.rows s.ended p.slices p.complete
   pub after_is : p.after ≡ end_mark s.ended (mark_after s.before s.rows)
   pub may : MayAnswer q p.complete
 
 -- the piece is that of the arrivals from position x up to position y, before which the input did not end
 pub record IsOf (q : Tree) (r : Input) (x y : ℕ) (p : SlicePiece) : Type 0 where
   pub opens : (first_arrivals r x).ended ≡ false
-  pub given : Given q (take x r.rows) (slice_range r.rows x y) (first_arrivals r y).ended p.slices.items p.complete
+  pub given : Given q (take x r.rows) (slice_range r.rows x y) (first_arrivals r y).ended p.slices p.complete
   pub after_is : p.after ≡ mark_at r y
   pub may : MayAnswer q p.complete

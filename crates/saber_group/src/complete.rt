@@ -13,8 +13,7 @@ ghost use Rattle.saber_group.specs.SlicePieces.{Gives, SlicesFrom, TaskSteps};
 
 use crate::batch::Batch;
 use crate::group::Group;
-use crate::letting::let_slices_go;
-use crate::slices::Slice;
+use crate::slice_list::Slices;
 use saber_changes::Output;
 use saber_fragment::Earlier;
 use saber_partial::Steps;
@@ -33,44 +32,24 @@ pub(crate) struct Complete {
     pub(crate) open: Open,
 }
 
-// Puts copies of these slices into an empty list.
-fn copy_all(alloc: Global, slices: &[Slice], copies: &mut Vec<Slice>) -> Result<(), NoMemory>
-    requires { copies.old.items ≡ [] }
-    ensures { OnOk result (copies.new.items ≡ slices.now) }
-{
-    copies.try_reserve_exact(slices.len())?;
-    for slice in slices {
-        copies.push(slice.copy(alloc)?)?;
-    }
-    Ok(())
-}
-
-// Slices with memory of their own.
-fn copied(alloc: Global, slices: &[Slice]) -> Result<Vec<Slice>, NoMemory>
-    ensures { IfOk result (λ v. v.items ≡ slices.now) }
-{
-    let mut copies = Vec::new(alloc);
-    match copy_all(alloc, slices, &mut copies) {
-        Ok(()) => Ok(copies),
-        Err(want) => {
-            let_slices_go(copies);
-            Err(want)
-        }
-    }
-}
-
 /// How many slices, from the first on, have a window below `low`.
-pub(crate) fn closing_end(slices: &[Slice], low: u64) -> usize
+pub(crate) fn closing_end(slices: &Slices, low: u64) -> usize
     ensures within { result ≤ length slices.now }
     ensures firsts { AllByRecursion (λ (r : Slice). r.first ≤ low) (take result slices.now) }
     ensures behind { (r : Slice) → Some r ≡ slice_get slices.now result → low ≤ r.first }
 {
-    for at in 0..slices.len() {
-        if low <= slices[at].first {
-            return at;
+    let count = slices.len();
+    for at in 0..count {
+        match slices.first(at) {
+            Some(first) => {
+                if low <= first {
+                    return at;
+                }
+            }
+            None => return at,
         }
     }
-    slices.len()
+    count
 }
 
 // Whether a task gives so few of its slices as copies that a slice costs three steps at most: two
@@ -84,17 +63,6 @@ fn are_few(copies: usize, slices: usize, earlier: usize) -> bool
     } else {
         copies == 0
     }
-}
-
-// Puts a slice behind others, unless no window from `low` on has it, or no row of it passes.
-fn add_slice(front: &mut Front, low: u64, slice: Slice) -> Result<(), NoMemory>
-    requires { CanFollow slice.part front.old }
-    ensures { OnOk result (EnteredFrom low front.old slice.past slice.part front.new) }
-{
-    if slice.past <= low || slice.part.is_empty() {
-        return Ok(());
-    }
-    front.push(slice.past, slice.part)
 }
 
 impl Group<'_> {
@@ -116,16 +84,19 @@ impl Group<'_> {
     {
         let _plan = &self.plan;
         let (slices, _) = self.slices_of(alloc, earlier)?;
+        let mut rest = slices;
         let mut front = Front::empty(alloc);
-        for slice in slices {
-            match add_slice(&mut front, low, slice) {
+        while rest.len() > 0 {
+            match rest.wait_first(alloc, low, &mut front) {
                 Ok(()) => {}
                 Err(want) => {
                     front.let_go();
+                    rest.let_go();
                     return Err(want);
                 }
             }
         }
+        rest.let_go();
         Ok(Open {
             next: low,
             slices: front.into_queue(alloc, steps)?,
@@ -142,17 +113,17 @@ impl Group<'_> {
         alloc: Global,
         earlier: &Earlier,
         batch: &Batch,
-        slices: Vec<Slice>,
+        slices: Slices,
         high: u64,
         steps: &mut Steps<L>,
-    ) -> Result<(Vec<Slice>, Option<Complete>), NoMemory>
+    ) -> Result<(Slices, Option<Complete>), NoMemory>
         requires meets { batch.now.before ≡ mark_after earlier.now.before earlier.now.rows }
         requires fits { RowsFit (tree_of self.now) earlier.now.before (earlier.now.rows ++ batch.now.rows.now) }
-        requires slices { SlicesFrom (tree_of self.now) batch.now.before batch.now.rows.now 0 slices.items }
+        requires slices { SlicesFrom (tree_of self.now) batch.now.before batch.now.rows.now 0 slices }
         requires high { high ≡ closed_count (frame (tree_of self.now)) (end_mark batch.now.ended (mark_after batch.now.before batch.now.rows.now)) }
-        ensures gives { IfOk result (λ r. Gives (tree_of self.now) earlier.now batch.now.before batch.now.rows.now batch.now.ended r.0.items r.1) }
-        ensures few { IfOk result (λ r. IfSome r.1 (λ c. 2 * length r.0.items ≤ length slices.items)) }
-        ensures steps { IfOk result (λ r. TaskSteps (length earlier.now.rows) (length slices.items) r.1 steps.old steps.new) }
+        ensures gives { IfOk result (λ r. Gives (tree_of self.now) earlier.now batch.now.before batch.now.rows.now batch.now.ended r.0 r.1) }
+        ensures few { IfOk result (λ r. IfSome r.1 (λ c. 2 * length r.0 ≤ length slices)) }
+        ensures steps { IfOk result (λ r. TaskSteps (length earlier.now.rows) (length slices) r.1 steps.old steps.new) }
     {
         let _plan = &self.plan;
         let closed = self.closed_below(&batch.before);
@@ -166,18 +137,18 @@ impl Group<'_> {
             rows: &earlier.rows,
             ended: false,
         };
-        let closing = match copied(alloc, &slices[..count]) {
+        let closing = match slices.copy_front(alloc, count) {
             Ok(closing) => closing,
             Err(want) => {
-                let_slices_go(slices);
+                slices.let_go();
                 return Err(want);
             }
         };
         let mut open = match self.open_behind(alloc, &before, low, steps) {
             Ok(open) => open,
             Err(want) => {
-                let_slices_go(closing);
-                let_slices_go(slices);
+                closing.let_go();
+                slices.let_go();
                 return Err(want);
             }
         };
@@ -190,7 +161,7 @@ impl Group<'_> {
             }
             Err(want) => {
                 each.let_go();
-                let_slices_go(closing);
+                closing.let_go();
                 open.let_go();
                 Err(want)
             }

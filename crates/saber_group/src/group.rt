@@ -1,5 +1,5 @@
 // A group query and its windows.
-ghost use Rattle.std.specs.Prelude.{◌≡◌, ◌≤◌, ◌^◌};
+ghost use Rattle.std.specs.Prelude.{◌≡◌, ◌≤◌, ◌^◌, [], true};
 ghost use Rattle.saber_plan.specs.declared.plans.Shape.TheVariants as shapes;
 ghost use Rattle.saber_plan.specs.Trees.{tree_of};
 ghost use Rattle.saber_plan.specs.Windows.{closed_count, begun_count};
@@ -50,6 +50,14 @@ impl<'a> Group<'a> {
             windows: Windows::of_plan(plan),
             aggregates: Aggregates::of_plan(plan),
         }
+    }
+
+    /// Whether all rows lie in one group, under the empty key.
+    #[inline]
+    pub(crate) fn has_no_key(&self) -> bool
+        ensures { result ≡ true → (tree_of self.now).keys ≡ [] }
+    {
+        self.plan.keys().is_empty()
     }
 
     /// The row lies in the windows from the one up to the other, and in no other.

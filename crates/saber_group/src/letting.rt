@@ -2,8 +2,10 @@
 // the steps that let each of its parts go would stand in that function, once for each exit, and its
 // proof would take them all in.
 use crate::complete::Complete;
+use crate::slice_list::Span;
 use crate::slices::Slice;
-use saber_partial::Gathering;
+use saber_partial::{Gathering, OneGathering};
+use std::collections::VecDeque;
 
 impl Slice {
     /// Lets the slice go.
@@ -11,10 +13,13 @@ impl Slice {
 }
 
 /// Lets slices go.
-pub(crate) fn let_slices_go(_slices: Vec<Slice>) {}
+pub(crate) fn let_groups_go(_slices: VecDeque<Slice>) {}
 
 /// Lets go of a part in the making.
 pub(crate) fn let_part_go(_part: Gathering) {}
+
+/// Lets go of slices whose parts stand in a list, and of these parts.
+pub(crate) fn let_spans_go(_spans: Vec<Span>, _parts: OneGathering) {}
 
 impl Complete {
     /// Lets go of what a task answered.

@@ -6,9 +6,11 @@
 //! window before. The engine runs it; docs/TASKS.md follows it.
 //!
 //! - Parts: `group` (`Group`, over its plan), `batch` and `rows` (a task's rows), `slices`,
-//!   `complete` (windows that a task answers itself), `slice_pieces`, `slice_stores`, `operator`
-//!   (`GroupOperator`, and the trait's calls); `letting` (values let go by calls). The queue of
-//!   slices, and the loop over its closed windows, are those of `saber_sliding`.
+//!   `slice_list` (`Slices`: those of some rows, each with a part of its own, or, without GROUP BY,
+//!   with one in a list of all), `complete` (windows that a task answers itself), `slice_pieces`,
+//!   `slice_stores`, `operator` (`GroupOperator`, and the trait's calls); `letting` (values let go
+//!   by calls). The queue of slices, and the loop over its closed windows, are those of
+//!   `saber_sliding`.
 //! - Calls: `GroupOperator::new` takes a checked plan whose windows print their answers,
 //!   `GroupOperator::changing` one whose windows print what changes, with the change; the rest is
 //!   by the trait of `saber_fragment`.
@@ -32,6 +34,7 @@ mod group;
 mod letting;
 mod operator;
 mod rows;
+mod slice_list;
 mod slice_pieces;
 mod slice_stores;
 mod slices;

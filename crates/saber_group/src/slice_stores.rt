@@ -10,8 +10,8 @@ ghost use Rattle.saber_group.specs.SliceStores.{kept_in, Answering, CanCome, Can
 
 use crate::complete::Complete;
 use crate::group::Group;
+use crate::slice_list::Slices;
 use crate::slice_pieces::SlicePiece;
-use crate::slices::Slice;
 use saber_changes::{Change, Output};
 use saber_partial::Steps;
 use saber_plan::NoMemory;
@@ -52,23 +52,24 @@ impl Group<'_> {
         &self,
         alloc: Global,
         store: &mut Open,
-        slices: Vec<Slice>,
+        slices: Slices,
         closed: u64,
         output: &mut Output,
         out: &mut Vec<u8>,
         steps: &mut Steps<L>,
     ) -> Result<(), NoMemory>
-        requires goes_on { CanGoOn (tree_of self.now) store.old slices.items closed }
+        requires goes_on { CanGoOn (tree_of self.now) store.old slices closed }
         requires before { IsBefore output.old store.old.next }
         ensures next { OnOk result (store.new.next ≡ closed) }
-        ensures went_on { OnOk result (HasGoneOn (tree_of self.now) store.old output.old slices.items closed store.new output.new out.old.items out.new.items) }
+        ensures went_on { OnOk result (HasGoneOn (tree_of self.now) store.old output.old slices closed store.new output.new out.old.items out.new.items) }
         ensures behind { Behind out.old.items out.new.items }
-        ensures steps { OnOk result (steps.new + store.new.slices.owed + store.old.next ≤ steps.old + store.old.slices.owed + 2 * length slices.items + store.new.next) }
+        ensures steps { OnOk result (steps.new + store.new.slices.owed + store.old.next ≤ steps.old + store.old.slices.owed + 2 * length slices + store.new.next) }
     {
         let _plan = &self.plan;
-        for slice in slices {
-            store.close(alloc, self.plan, slice.first, output, out, steps)?;
-            store.take_in(alloc, slice.past, slice.part, steps)?;
+        let mut rest = slices;
+        while let Some(first) = rest.first(0) {
+            store.close(alloc, self.plan, first, output, out, steps)?;
+            rest.enter_first(alloc, store, steps)?;
         }
         store.close(alloc, self.plan, closed, output, out, steps)?;
         Ok(())
@@ -80,18 +81,18 @@ impl Group<'_> {
         &self,
         alloc: Global,
         store: &mut Open,
-        slices: Vec<Slice>,
+        slices: Slices,
         complete: Complete,
         output: &mut Output,
         out: &mut Vec<u8>,
         steps: &mut Steps<L>,
     ) -> Result<(), NoMemory>
-        requires comes { (closed : ℕ) × CanCome (tree_of self.now) store.old slices.items (Some complete) closed }
+        requires comes { (closed : ℕ) × CanCome (tree_of self.now) store.old slices (Some complete) closed }
         requires before { IsBefore output.old store.old.next }
         requires each { change_in output.old ≡ None }
-        ensures come { OnOk result ((closed : ℕ) → HasCome (tree_of self.now) store.old output.old slices.items (Some complete) closed store.new output.new out.old.items out.new.items) }
+        ensures come { OnOk result ((closed : ℕ) → HasCome (tree_of self.now) store.old output.old slices (Some complete) closed store.new output.new out.old.items out.new.items) }
         ensures behind { Behind out.old.items out.new.items }
-        ensures steps { OnOk result (PieceSteps store.old (length slices.items) (Some complete) store.new steps.old steps.new) }
+        ensures steps { OnOk result (PieceSteps store.old (length slices) (Some complete) store.new steps.old steps.new) }
     {
         match self.take_slices(alloc, store, slices, complete.low, output, out, steps) {
             Ok(()) => {}
@@ -123,12 +124,12 @@ impl Group<'_> {
         out: &mut Vec<u8>,
         steps: &mut Steps<L>,
     ) -> Result<(), NoMemory>
-        requires comes { CanCome (tree_of self.now) store.old piece.slices.items piece.complete closed }
+        requires comes { CanCome (tree_of self.now) store.old piece.slices piece.complete closed }
         requires before { IsBefore output.old store.old.next }
         requires answering { Answering output.old piece.complete }
-        ensures come { OnOk result (HasCome (tree_of self.now) store.old output.old piece.slices.items piece.complete closed store.new output.new out.old.items out.new.items) }
+        ensures come { OnOk result (HasCome (tree_of self.now) store.old output.old piece.slices piece.complete closed store.new output.new out.old.items out.new.items) }
         ensures behind { Behind out.old.items out.new.items }
-        ensures steps { OnOk result (PieceSteps store.old (length piece.slices.items) piece.complete store.new steps.old steps.new) }
+        ensures steps { OnOk result (PieceSteps store.old (length piece.slices) piece.complete store.new steps.old steps.new) }
     {
         let _plan = &self.plan;
         let SlicePiece {
@@ -155,13 +156,13 @@ impl Group<'_> {
         out: &mut Vec<u8>,
         blank: Blank,
     ) -> Result<(), NoMemory>
-        requires comes { CanCome (tree_of self.now) store.old piece.slices.items piece.complete closed }
+        requires comes { CanCome (tree_of self.now) store.old piece.slices piece.complete closed }
         requires before { IsBefore output.old store.old.next }
         requires answering { Answering output.old piece.complete }
         requires name { blank.name ≡ L.name }
         requires parts { blank.parts ≡ L.parts }
         requires some { 0 < blank.parts }
-        ensures come { OnOk result (HasCome (tree_of self.now) store.old output.old piece.slices.items piece.complete closed store.new output.new out.old.items out.new.items) }
+        ensures come { OnOk result (HasCome (tree_of self.now) store.old output.old piece.slices piece.complete closed store.new output.new out.old.items out.new.items) }
         ensures behind { Behind out.old.items out.new.items }
     {
         let mut steps = Steps::<L>::new(blank);

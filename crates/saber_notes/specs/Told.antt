@@ -1,8 +1,12 @@
 -- What notes tell of a call that ended.
-use Rattle.std.specs.Prelude.{◌≡◌, ◌≢◌, ℕ, List, Option}
+use Rattle.std.specs.Prelude.{◌≡◌, ◌≢◌, ℕ, List, [], Option}
 use Rattle.saber_plan.specs.Outputs.{Rose, appended_text, raised_count, AppendsPrefix}
 use Rattle.saber_notes.specs.declared.note.Noted.{Noted}
 use Rattle.saber_notes.specs.declared.note.Noted.TheVariants as noted_as
+
+-- the status is 0 where there is nothing to tell, and nowhere else
+abbrev pub HasNotes : ℕ → List ℕ → Type 0
+HasNotes status text = (status ≡ 0 → text ≡ []) × (status ≢ 0 → text ≢ [])
 
 -- The notes tell this text, in one write: the whole, or a prefix where their sink failed, or nothing where it lacked memory; and nothing with status 0.
 module _ {N : Type 0} (written : N → Option (List ℕ)) (faults writes : N → ℕ) where

@@ -1,7 +1,8 @@
 // Notes: one line for each end but the good one.
 ghost use Rattle.std.specs.Prelude.{◌≡◌, ◌≢◌, ◌≤◌, ◌+◌, ◌++◌, length, decimal, Err};
-ghost use Rattle.saber_notes.specs.Notes.{query_text, line_text, side_text, file_text, note_text, note_of};
+ghost use Rattle.saber_notes.specs.Notes.{query_text, line_text, side_text, file_text, note_text, note_of, status_of};
 ghost use Rattle.saber_notes.specs.Lines.{bytes_of};
+ghost use Rattle.saber_notes.specs.Told.{TellsNotes};
 ghost use Rattle.saber_notes.specs.declared.note.Noted.{Noted};
 ghost use Rattle.saber_plan.specs.Outputs.{Rose, appended_text, raised_count, AppendsPrefix};
 
@@ -230,7 +231,6 @@ pub(crate) fn put_note<N: Sink>(notes: &mut N, text: &[u8]) -> Noted
     ensures good { result ≢ Noted.Failed → N.faults notes.new ≡ N.faults notes.old }
     ensures one { result ≢ Noted.NoMemory → N.writes notes.new ≡ raised_count (N.writes notes.old) }
     ensures none { result ≡ Noted.NoMemory → N.writes notes.new ≡ N.writes notes.old }
-    ensures count { N.faults notes.old ≤ N.faults notes.new }
 {
     match notes.write_all(text) {
         Ok(()) => Noted::Whole,
@@ -252,16 +252,7 @@ fn note_line(outcome: Outcome) -> Line
 /// Writes the note of an end in one write, from a buffer of a fixed size. A call that is done has
 /// none.
 pub fn write_note<N: Sink>(notes: &mut N, outcome: Outcome) -> Noted
-    ensures nothing { outcome ≡ Outcome.Done → (result ≡ Noted.Nothing) × (notes.new ≡ notes.old) }
-    ensures something { outcome ≢ Outcome.Done → result ≢ Noted.Nothing }
-    ensures whole { result ≡ Noted.Whole → N.written notes.new ≡ appended_text (N.written notes.old) (note_of outcome) }
-    ensures failed { result ≡ Noted.Failed → AppendsPrefix (N.written notes.old) (N.written notes.new) (note_of outcome) }
-    ensures memory { result ≡ Noted.NoMemory → N.written notes.new ≡ N.written notes.old }
-    ensures cause { result ≡ Noted.Failed → Rose (N.faults notes.old) (N.faults notes.new) }
-    ensures good { result ≢ Noted.Failed → N.faults notes.new ≡ N.faults notes.old }
-    ensures one { outcome ≢ Outcome.Done → result ≢ Noted.NoMemory → N.writes notes.new ≡ raised_count (N.writes notes.old) }
-    ensures none { result ≡ Noted.NoMemory → N.writes notes.new ≡ N.writes notes.old }
-    ensures count { N.faults notes.old ≤ N.faults notes.new }
+    ensures { TellsNotes N.written N.faults N.writes notes.old notes.new (status_of outcome) result (note_of outcome) }
 {
     if outcome == Outcome::Done {
         return Noted::Nothing;

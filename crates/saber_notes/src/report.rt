@@ -1,8 +1,6 @@
 // The notes of `many`: lines of several queries, that go out in one write.
-ghost use Rattle.std.specs.Prelude.{◌≡◌, ◌≢◌, ◌≤◌};
-ghost use Rattle.saber_notes.specs.ManyNotes.{early_note};
-ghost use Rattle.saber_notes.specs.declared.note.Noted.{Noted};
-ghost use Rattle.saber_plan.specs.Outputs.{Rose, appended_text, raised_count, AppendsPrefix};
+ghost use Rattle.saber_notes.specs.ManyNotes.{early_note, early_status};
+ghost use Rattle.saber_notes.specs.Told.{TellsNotes};
 
 use crate::early::Early;
 use crate::note::{Noted, put_note, tail_line};
@@ -20,13 +18,11 @@ pub struct Report {
 }
 
 impl Report {
-    ghost use Rattle.std.specs.Prelude.{◌≡◌, ◌≢◌, ◌≤◌, ◌+◌, ◌++◌, [], codes, decimal, length};
+    ghost use Rattle.std.specs.Prelude.{◌≡◌, ◌≤◌, ◌+◌, ◌++◌, ℕ, [], codes, decimal, length};
     ghost use Rattle.saber_notes.specs.ManyNotes.{query_line, line_on, early_note};
     ghost use Rattle.saber_notes.specs.Notes.{note_of};
     ghost use Rattle.saber_notes.specs.Reports.{notes_in};
-    ghost use Rattle.saber_notes.specs.declared.outcome.Outcome.{Outcome};
-    ghost use Rattle.saber_notes.specs.declared.note.Noted.{Noted};
-    ghost use Rattle.saber_plan.specs.Outputs.{Rose, appended_text, raised_count, AppendsPrefix};
+    ghost use Rattle.saber_notes.specs.Told.{HasNotes, TellsNotes};
 
     /// No line yet.
     pub fn new() -> Report
@@ -126,16 +122,8 @@ impl Report {
 
     /// Writes the lines, in one write. Where there are none, nothing is written.
     pub fn write<N: Sink>(&self, notes: &mut N) -> Noted
-        ensures nothing { notes_in self.now ≡ [] → (result ≡ Noted.Nothing) × (notes.new ≡ notes.old) }
-        ensures something { notes_in self.now ≢ [] → result ≢ Noted.Nothing }
-        ensures whole { result ≡ Noted.Whole → N.written notes.new ≡ appended_text (N.written notes.old) (notes_in self.now) }
-        ensures failed { result ≡ Noted.Failed → AppendsPrefix (N.written notes.old) (N.written notes.new) (notes_in self.now) }
-        ensures memory { result ≡ Noted.NoMemory → N.written notes.new ≡ N.written notes.old }
-        ensures cause { result ≡ Noted.Failed → Rose (N.faults notes.old) (N.faults notes.new) }
-        ensures good { result ≢ Noted.Failed → N.faults notes.new ≡ N.faults notes.old }
-        ensures one { result ≢ Noted.Nothing → result ≢ Noted.NoMemory → N.writes notes.new ≡ raised_count (N.writes notes.old) }
-        ensures none { result ≡ Noted.NoMemory → N.writes notes.new ≡ N.writes notes.old }
-        ensures count { N.faults notes.old ≤ N.faults notes.new }
+        ensures { (status : ℕ) → HasNotes status (notes_in self.now)
+            → TellsNotes N.written N.faults N.writes notes.old notes.new status result (notes_in self.now) }
     {
         if self.text.is_empty() {
             return Noted::Nothing;
@@ -147,15 +135,7 @@ impl Report {
 /// Writes the note of a call with several queries that ends before any is run, in one write, from a
 /// buffer of a fixed size.
 pub fn write_early<N: Sink>(notes: &mut N, early: Early) -> Noted
-    ensures something { result ≢ Noted.Nothing }
-    ensures whole { result ≡ Noted.Whole → N.written notes.new ≡ appended_text (N.written notes.old) (early_note early) }
-    ensures failed { result ≡ Noted.Failed → AppendsPrefix (N.written notes.old) (N.written notes.new) (early_note early) }
-    ensures memory { result ≡ Noted.NoMemory → N.written notes.new ≡ N.written notes.old }
-    ensures cause { result ≡ Noted.Failed → Rose (N.faults notes.old) (N.faults notes.new) }
-    ensures good { result ≢ Noted.Failed → N.faults notes.new ≡ N.faults notes.old }
-    ensures one { result ≢ Noted.NoMemory → N.writes notes.new ≡ raised_count (N.writes notes.old) }
-    ensures none { result ≡ Noted.NoMemory → N.writes notes.new ≡ N.writes notes.old }
-    ensures count { N.faults notes.old ≤ N.faults notes.new }
+    ensures { TellsNotes N.written N.faults N.writes notes.old notes.new (early_status early) result (early_note early) }
 {
     let mut report = Report::new();
     report.add_early(early);

@@ -1,4 +1,5 @@
 mod FlatRows
+mod RowPairs
 mod Layouts
 pub mod Folded
 pub mod Lone
@@ -17,3 +18,6 @@ pub mod Counted
 mod PileFacts
 mod RowParted
 mod Picked
+pub mod OneParts
+mod OneRows
+mod Makings

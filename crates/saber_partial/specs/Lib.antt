@@ -8,3 +8,4 @@ pub mod PartLaws
 pub mod Piles
 pub mod Young
 pub mod MergeFacts
+pub mod Ones

@@ -131,6 +131,19 @@ can_ahead a b c g h = can_by a (merge b c)
     (like_ahead j k (get a j) (get b k) (get c k) (like_at a b g j k)
     (like_first j k (get a j) (get b j) (get c k) (joins_at a b g j) (subst (λ o. AreLike j k o (get c k)) (given a b j) (like_at (merge a b) c h j k)))))
 
+joins_over : (o p q : Option Numbers) → Joins o p → Joins (with o p) q → Joins o q
+joins_over None p q g h = tt
+joins_over (Some x) None q g h = h
+joins_over (Some x) (Some y) None g h = tt
+joins_over (Some x) (Some y) (Some w) g h =
+    let few : (x.count + y.count) + w.count ≤ 2 ^ 40 = h.counts in
+    to_join x w (omega (arith, few)) (g.folds ∙ front_folds x y w g h)
+
+pub can_over : (a b c : Part) → CanMerge a b → CanMerge (merge a b) c → CanMerge a c
+can_over a b c g h = can_by a c
+    (λ k. joins_over (get a k) (get b k) (get c k) (joins_at a b g k) (subst (λ o. Joins o (get c k)) (given a b k) (joins_at (merge a b) c h k)))
+    (λ j k. like_first j k (get a j) (get b j) (get c k) (joins_at a b g j) (subst (λ o. AreLike j k o (get c k)) (given a b j) (like_at (merge a b) c h j k)))
+
 -- ---- the last two are merged: so can be the first two
 
 joins_first : (o p q : Option Numbers) → Joins p q → Joins o (with p q) → Joins o p

@@ -1,16 +1,18 @@
 // Groups of rows: from key lists to what is known of their rows.
-ghost use Rattle.std.specs.Prelude.{◌≡◌, [], ◌∷◌, true, false, Some, IfOk, OnOk, OnErr, length, ◌+◌, ◌≤◌};
+ghost use Rattle.std.specs.Prelude.{◌≡◌, [], ◌∷◌, true, false, None, Some, IfOk, IfSome, OnOk, OnErr, length, ◌+◌, ◌≤◌};
 ghost use Rattle.std.specs.List.{AllByRecursion};
 ghost use Rattle.saber_plan.specs.Trees.{tree_of};
 ghost use Rattle.saber_plan.specs.Parts.{no_part, numbers, merge};
 ghost use Rattle.saber_plan.specs.Tasks.{full};
 ghost use Rattle.saber_partial.specs.Gathering.{CanCount};
+ghost use Rattle.saber_partial.specs.Ones.{AreKeyless, IsOne};
 ghost use Rattle.saber_partial.specs.Tallies.{CanMerge, FitsAt, with_row};
 
 use crate::aggregates::Aggregates;
 use crate::layout::Layout;
 use crate::merges::take_in;
 use crate::places::place;
+use crate::row_parts::RowPart;
 use crate::steps::Steps;
 use crate::table::Table;
 use saber_flat::RowRef;
@@ -65,6 +67,21 @@ impl Partial {
         ensures some { result ≡ false → full self.now ≡ Some self.now }
     {
         self.groups.len() == 0
+    }
+
+    /// The first group by itself, if there is one.
+    #[inline]
+    pub fn first(&self) -> Option<RowPart<'_>>
+        ensures none { result ≡ None → self.now ≡ no_part }
+        ensures one { IfSome result (λ r. AreKeyless self.now → (r ≡ self.now) × IsOne r) }
+    {
+        if self.groups.len() == 0 {
+            return None;
+        }
+        Some(RowPart {
+            layout: self.groups.layout(),
+            row: self.groups.row(0),
+        })
     }
 
     // Puts in the group of a first row.

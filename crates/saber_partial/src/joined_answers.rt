@@ -48,7 +48,7 @@ fn put_both(
 
 // The same behind the answers of other groups.
 #[inline]
-fn push_both(
+pub(crate) fn push_both(
     answers: &mut Answers,
     line: &mut Vec<i128>,
     items: &[Expr],

@@ -26,7 +26,7 @@ use std::cmp::Ordering;
 use std::sync::ledger::Ledger;
 
 #[inline(always)]
-fn write_both_cells(
+pub(crate) fn write_both_cells(
     out: &mut Vec<u8>,
     draft: &mut [u8; 128],
     start: usize,

@@ -18,7 +18,8 @@ pub(crate) struct Layout {
 impl Layout {
     /// The layout of no groups.
     pub(crate) fn of_none() -> Layout
-        ensures { IsLayout result }
+        ensures layout { IsLayout result }
+        ensures keys { result.keys ≡ 0 }
     {
         Layout {
             keys: 0,

@@ -17,7 +17,7 @@ use saber_digits::{end_line, flush, put_cell, start_line};
 use saber_plan::{Expr, NoMemory, Plan};
 
 #[inline(always)]
-fn write_cells(
+pub(crate) fn write_cells(
     out: &mut Vec<u8>,
     draft: &mut [u8; 128],
     start: usize,

@@ -57,6 +57,35 @@ fn make_room(numbers: &mut Vec<i128>, start: usize, width: usize) -> Result<(), 
     Ok(())
 }
 
+// Without the first numbers. The memory stays.
+fn drop_numbers(numbers: &mut Vec<i128>, count: usize)
+    requires { count ≤ length numbers.old.items }
+    ensures { numbers.new.items ≡ drop count numbers.old.items }
+{
+    let _gone = numbers.drain(..count);
+}
+
+// Takes what is known by a row of numbers into the row before it.
+#[inline(always)]
+fn join_side(layout: &Layout, rows: &mut [i128])
+    requires layout { IsLayout layout.now }
+    requires long { length rows.old ≡ layout.now.width + layout.now.width }
+    requires mine { IsRow layout.now (take layout.now.width rows.old) }
+    requires theirs { IsRow layout.now (drop layout.now.width rows.old) }
+    requires can { CanJoin (entry_in layout.now (take layout.now.width rows.old)).1 (entry_in layout.now (drop layout.now.width rows.old)).1 }
+    ensures long { length rows.new ≡ layout.now.width + layout.now.width }
+    ensures row { IsRow layout.now (take layout.now.width rows.new) }
+    ensures joined { entry_in layout.now (take layout.now.width rows.new)
+        ≡ (
+          (entry_in layout.now (take layout.now.width rows.old)).0,
+          join_numbers (entry_in layout.now (take layout.now.width rows.old)).1 (entry_in layout.now (drop layout.now.width rows.old)).1,
+        ) }
+    ensures same { drop layout.now.width rows.new ≡ drop layout.now.width rows.old }
+{
+    let (front, behind) = rows.split_at_mut(layout.width);
+    join_row(layout, front, behind);
+}
+
 impl Table {
     /// No groups. Takes no memory.
     pub(crate) fn new(alloc: Global, layout: Layout) -> Table
@@ -165,6 +194,21 @@ impl Table {
         let start = i * self.layout.width;
         let end = start + self.layout.width;
         join_row(&self.layout, &mut self.numbers[start..end], other);
+    }
+
+    /// Takes what is known of the next group into a group.
+    #[inline(always)]
+    pub(crate) fn join_next(&mut self, i: usize)
+        requires there { i + 1 < length self.old.entries }
+        requires can { (d : List ℤ × Numbers) → CanJoin (get_or self.old.entries i d).1 (get_or self.old.entries (i + 1) d).1 }
+        ensures layout { self.new.layout ≡ self.old.layout }
+        ensures joined { (d : List ℤ × Numbers) → self.new.entries
+            ≡ set self.old.entries i ((get_or self.old.entries i d).0, join_numbers (get_or self.old.entries i d).1 (get_or self.old.entries (i + 1) d).1) }
+    {
+        let width = self.layout.width;
+        let start = i * width;
+        let end = start + (width + width);
+        join_side(&self.layout, &mut self.numbers[start..end]);
     }
 
     /// Counts one row more in a group. Each row asks it.
@@ -288,6 +332,27 @@ impl Table {
         Ok(())
     }
 
+    /// Lets the first groups go. The memory stays.
+    pub(crate) fn drop_front(&mut self, count: usize)
+        requires { count ≤ length self.old.entries }
+        ensures layout { self.new.layout ≡ self.old.layout }
+        ensures rest { self.new.entries ≡ drop count self.old.entries }
+    {
+        self.len -= count;
+        drop_numbers(&mut self.numbers, count * self.layout.width);
+    }
+
+    /// The first groups, in memory of their own.
+    pub(crate) fn copy_front(&self, alloc: Global, count: usize) -> Result<Table, NoMemory>
+        requires { count ≤ length self.now.entries }
+        ensures layout { IfOk result (λ t. t.layout ≡ self.now.layout) }
+        ensures all { IfOk result (λ t. t.entries ≡ take count self.now.entries) }
+    {
+        let mut copy = Table::new(alloc, self.layout);
+        copy.push_range(self, 0, count)?;
+        Ok(copy)
+    }
+
     /// No groups any more, and a layout for others. The memory stays.
     pub(crate) fn clear(&mut self, layout: Layout)
         requires { IsLayout layout }
@@ -316,6 +381,19 @@ impl Table {
     {
         if self.len() == 0 {
             self.clear(aggregates.layout());
+        }
+    }
+
+    /// Where there is no group yet, the layout becomes another.
+    #[inline]
+    pub(crate) fn be_like(&mut self, layout: &Layout)
+        requires layout { IsLayout layout.now }
+        requires others { 0 < length self.old.entries → self.old.layout ≡ layout.now }
+        ensures layout { self.new.layout ≡ layout.now }
+        ensures same { self.new.entries ≡ self.old.entries }
+    {
+        if self.len() == 0 {
+            self.clear(*layout);
         }
     }
 

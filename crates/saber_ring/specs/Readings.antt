@@ -1,5 +1,5 @@
 -- How the words of a ring are read.
-use Rattle.std.specs.Prelude.{ℕ}
+use Rattle.std.specs.Prelude.{ℕ, ◌+◌, ◌*◌, Bool, nat_lt}
 use Rattle.saber_ring.specs.declared.phases.Phase.{Phase}
 use Rattle.saber_ring.specs.declared.phases.Phase.TheVariants.{Idle, Filling, Ready, Held, Done, Taken, Marked, Gone}
 use Rattle.saber_ring.specs.declared.phases.BlockPhase.{BlockPhase}
@@ -22,3 +22,7 @@ block_phase_number block.Empty = 0
 block_phase_number block.Filling = 1
 block_phase_number block.Home = 2
 block_phase_number block.Reading = 3
+
+-- the word of its cell is past the one that shows task t as ready
+abbrev pub was_claimed : ℕ → ℕ → Bool
+was_claimed t word = nat_lt (8 * t + 2) word

@@ -52,4 +52,4 @@ pub use ring::Ring;
 pub use seat::Seat;
 pub use turn::Turn;
 pub use view::View;
-pub use words::{block, phase, turn_of};
+pub use words::{block, phase, turn_of, was_claimed};

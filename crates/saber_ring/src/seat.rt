@@ -23,7 +23,7 @@ use std::marker::PhantomData;
 // The phases that a call writes or waits for. The word of a cell is eight times the task, plus the
 // phase; idle is 0.
 
-const READY: u64 = 2;
+pub(crate) const READY: u64 = 2;
 
 const HELD: u64 = 3;
 

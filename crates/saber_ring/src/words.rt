@@ -1,9 +1,10 @@
 //! How the words of a ring are read. A word comes with a refusal, or from another thread.
-ghost use Rattle.std.specs.Prelude.{◌≡◌, ◌+◌, ◌*◌, ◌%◌, ◌==◌};
+ghost use Rattle.std.specs.Prelude.{◌≡◌, ◌≤◌, ◌^◌, ◌+◌, ◌*◌, ◌%◌, ◌==◌};
 ghost use Rattle.saber_ring.specs.Plays.{turn_behind};
-ghost use Rattle.saber_ring.specs.Readings.{block_phase_number, phase_number};
+ghost use Rattle.saber_ring.specs.Readings.{block_phase_number, phase_number, was_claimed};
 
 use crate::phases::{BlockPhase, Phase};
+use crate::seat::READY;
 
 /// The phase that the word of a cell shows, and the number of the task that the cell is for.
 pub fn phase(word: u64) -> (Phase, u64)
@@ -41,4 +42,13 @@ pub fn turn_of(word: u64) -> (u64, bool)
     ensures held { result.1 ≡ (word % 2 == 1) }
 {
     (word % (1 << 62) / 2, word % 2 == 1)
+}
+
+/// Whether the word that a claim of a task found, in place of the one that it waits for, says that
+/// the task was claimed before: a seat has it, or had it.
+pub fn was_claimed(t: u64, word: u64) -> bool
+    requires { t ≤ 2 ^ 42 }
+    ensures { result ≡ was_claimed t word }
+{
+    8 * t + READY < word
 }

@@ -1,3 +1,6 @@
 pub mod Entries
 pub mod EntryFacts
+pub mod Stacks
+pub mod Forms
+pub mod Waits
 pub mod Windows

@@ -1,9 +1,14 @@
 // Parts that are to be summed up at once.
-ghost use Rattle.std.specs.Prelude.{◌≡◌, ◌+◌, ◌≤◌, [], length, OnOk, IfOk};
-ghost use Rattle.saber_sliding.specs.Entries.{pushed_entries, CanFollow, Entries};
+ghost use Rattle.std.specs.Prelude.{◌≡◌, ◌+◌, ◌≤◌, [], ◌∷◌, ◌++◌, length, OnOk, OnErr, IfOk};
+ghost use Rattle.saber_partial.specs.Ones.{IsOne};
+ghost use Rattle.saber_sliding.specs.Entries.{pushed_entries, CanFollow, Entered};
 
+use crate::groups::GroupQueue;
+use crate::ones::OneQueue;
 use crate::queue::Sliding;
-use saber_partial::{Partial, Steps};
+use crate::stack::Stack;
+use crate::waiting::Waiting;
+use saber_partial::{Partial, RowPart, Steps};
 use saber_plan::NoMemory;
 use std::alloc::Global;
 use std::marker::Model;
@@ -14,7 +19,7 @@ use std::sync::ledger::Ledger;
 /// queue in one step for each. Contracts see the entries of that queue.
 #[derive(Drop)]
 pub struct Front {
-    entries: Vec<(u64, Partial)>,
+    waiting: Waiting,
 }
 
 impl Model for Front {
@@ -24,9 +29,24 @@ impl Model for Front {
 
     ghost coded = { coded_entries };
 
-    ghost view = { λ f. suffixes f.entries.items };
+    ghost use Rattle.saber_sliding.specs.Waits.{waiting_entries};
 
-    ghost invariant = { λ f. Chained f.entries.items };
+    ghost view = { λ f. suffixes (waiting_entries f.waiting) };
+
+    ghost invariant = { λ f. Chained (waiting_entries f.waiting) };
+}
+
+// The part of one group behind all others, in memory of its own.
+#[inline(always)]
+fn push_row(entries: &mut Vec<(u64, Partial)>, number: u64, part: &RowPart) -> Result<(), NoMemory>
+    ensures ok { OnOk result (entries.new.items ≡ entries.old.items ++ (number, part.now) ∷ []) }
+    ensures err { OnErr result (entries.new.items ≡ entries.old.items) }
+{
+    let alloc = *entries.allocator();
+    let mut none = None;
+    let own = Partial::of_row_in(alloc, &mut none, part)?;
+    entries.push((number, own))?;
+    Ok(())
 }
 
 impl Front {
@@ -35,17 +55,42 @@ impl Front {
         ensures { result ≡ [] }
     {
         Front {
-            entries: Vec::new(alloc),
+            waiting: Waiting::Ones(Stack::empty(alloc)),
         }
     }
 
-    /// A part of rows behind all others.
-    pub fn push(&mut self, number: u64, part: Partial) -> Result<(), NoMemory>
+    /// A part of rows behind all others, unless it has no group.
+    pub fn push(&mut self, alloc: Global, number: u64, part: Partial) -> Result<(), NoMemory>
         requires { CanFollow part self.old }
-        ensures { OnOk result (self.new ≡ pushed_entries self.old number part) }
+        ensures { OnOk result (Entered self.old number part self.new) }
     {
-        self.entries.push((number, part))?;
-        Ok(())
+        self.waiting.be_of_groups(alloc);
+        match &mut self.waiting {
+            Waiting::Groups(entries) => {
+                if part.is_empty() {
+                    return Ok(());
+                }
+                entries.push((number, part))?;
+                Ok(())
+            }
+            Waiting::Ones(stack) => match part.first() {
+                Some(own) => stack.push(number, &own),
+                None => Ok(()),
+            },
+        }
+    }
+
+    /// The part of one group behind all others, which has no key.
+    #[inline]
+    pub fn push_one(&mut self, number: u64, part: &RowPart) -> Result<(), NoMemory>
+        requires one { IsOne part.now }
+        requires room { CanFollow part.now self.old }
+        ensures { OnOk result (self.new ≡ pushed_entries self.old number part.now) }
+    {
+        match &mut self.waiting {
+            Waiting::Groups(entries) => push_row(entries, number, part),
+            Waiting::Ones(stack) => stack.push(number, part),
+        }
     }
 
     /// Lets the parts go.
@@ -61,6 +106,15 @@ impl Front {
         ensures owed { IfOk result (λ s. s.owed ≡ 0) }
         ensures steps { OnOk result (steps.new ≤ steps.old + length self) }
     {
-        Sliding::of_entries(alloc, self.entries, steps)
+        match self.waiting {
+            Waiting::Groups(entries) => {
+                let queue = GroupQueue::of_entries(alloc, entries, steps)?;
+                Ok(Sliding::of_groups(queue))
+            }
+            Waiting::Ones(stack) => {
+                let queue = OneQueue::of_entries(alloc, stack, steps);
+                Ok(Sliding::of_ones(queue))
+            }
+        }
     }
 }

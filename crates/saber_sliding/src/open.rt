@@ -11,7 +11,7 @@ ghost use Rattle.saber_sliding.specs.Windows.{answers_at, AnswersOf};
 
 use crate::queue::Sliding;
 use saber_changes::Output;
-use saber_partial::{Partial, Steps};
+use saber_partial::{Partial, RowPart, Steps};
 use saber_plan::{NoMemory, Plan};
 use std::alloc::Global;
 use std::sync::ledger::Ledger;
@@ -91,10 +91,24 @@ impl Open {
         ensures next { OnOk result (self.new.next ≡ self.old.next) }
         ensures steps { OnOk result (steps.new + self.new.slices.owed ≤ steps.old + self.old.slices.owed + 2) }
     {
-        if part.is_empty() {
-            return Ok(());
-        }
         self.slices.push(alloc, past, part, steps)
+    }
+
+    /// The same of a part of one group.
+    #[inline(always)]
+    pub fn take_one<L: Ledger>(
+        &mut self,
+        alloc: Global,
+        past: u64,
+        part: &RowPart,
+        steps: &mut Steps<L>,
+    ) -> Result<(), NoMemory>
+        requires { CanFollow part.now self.old.slices.entries }
+        ensures slices { OnOk result (Entered self.old.slices.entries past part.now self.new.slices.entries) }
+        ensures next { OnOk result (self.new.next ≡ self.old.next) }
+        ensures steps { OnOk result (steps.new + self.new.slices.owed ≤ steps.old + self.old.slices.owed + 2) }
+    {
+        self.slices.push_one(alloc, past, part, steps)
     }
 
     /// Appends what the windows below `low` print, each by what it has of the slices: one step for

@@ -1,16 +1,17 @@
-// Parts that follow one another, with the merge of all from any one on.
-ghost use Rattle.std.specs.Prelude.{◌≡◌, ◌+◌, ◌≤◌, [], ◌∷◌, ◌++◌, drop, length, false, OnOk, OnErr, IfOk};
+// The queue of parts, in one of two forms.
+ghost use Rattle.std.specs.Prelude.{◌≡◌, ◌+◌, ◌≤◌, [], ◌++◌, OnOk, OnErr, IfOk};
 ghost use Rattle.saber_plan.specs.declared.plans.Shape.TheVariants.{Group};
-ghost use Rattle.saber_plan.specs.Parts.{merge, no_part, part_answers, part_lines};
+ghost use Rattle.saber_plan.specs.Parts.{part_answers, part_lines};
 ghost use Rattle.saber_plan.specs.Trees.{tree_of};
-ghost use Rattle.saber_partial.specs.Tallies.{CanMerge};
-ghost use Rattle.saber_sliding.specs.Entries.{dropped_entries, first_number, pushed_entries, queue_entries, suffixes, whole, CanFollow, Chained, IsSound, Sound};
+ghost use Rattle.saber_sliding.specs.Entries.{dropped_entries, first_number, pushed_entries, whole, CanFollow, Entered, Put};
 
+use crate::form::Form;
+use crate::groups::GroupQueue;
+use crate::ones::OneQueue;
 use saber_changes::Answers;
-use saber_partial::{Partial, Pile, Steps};
+use saber_partial::{Partial, RowPart, Steps};
 use saber_plan::{NoMemory, Plan};
 use std::alloc::Global;
-use std::collections::VecDeque;
 use std::marker::Model;
 use std::sync::ledger::Ledger;
 
@@ -22,275 +23,23 @@ use std::sync::ledger::Ledger;
 /// asked. The back becomes the front when something is asked or comes, and not as entries go: a
 /// queue that nobody asks again is never summed up. Contracts see the entries in order, each with
 /// the merge of its part and all behind it, and how many steps for them are still owed: each merge
-/// of two parts is a step.
+/// of two parts is a step. Parts of one group without a key are kept in another form than others,
+/// which contracts don't see.
 #[derive(Drop)]
 pub struct Sliding {
-    pub(crate) front: VecDeque<(u64, Partial)>,
-    pub(crate) back: Vec<(u64, Partial)>,
-    pub(crate) back_part: Pile,
-    // whether the back is still to become the front, which has none then
-    pub(crate) late: bool,
-    // of no meaning: its memory is for the next entry
-    pub(crate) spare: Option<Partial>,
+    form: Form,
 }
 
 impl Model for Sliding {
-    ghost use Rattle.std.specs.Prelude.{◌+◌, length};
-    ghost use Rattle.saber_sliding.specs.Entries.{coded_queue, queue_entries, Queue, IsSound};
+    ghost use Rattle.saber_sliding.specs.Entries.{coded_queue, Queue};
 
     ghost Value = { Queue };
 
     ghost coded = { coded_queue };
 
-    ghost view = { λ s. record { entries = queue_entries s.front.items s.back.items s.back_part.part; owed = length s.back.items + s.back_part.pieces } };
+    ghost use Rattle.saber_sliding.specs.Forms.{queue_of};
 
-    ghost invariant = { λ s. IsSound s.late s.front.items s.back.items s.back_part.part };
-}
-
-// A part, and the merge of all that stand behind it: one step at most.
-#[tactic(auto, using(crate::proofs::Entered::units))]
-fn merge_behind<L: Ledger>(
-    alloc: Global,
-    part: &mut Partial,
-    front: &VecDeque<(u64, Partial)>,
-    steps: &mut Steps<L>,
-) -> Result<(), NoMemory>
-    requires { CanMerge part.old (whole front.now.items) }
-    ensures part { OnOk result (part.new ≡ merge part.old (whole front.now.items)) }
-    ensures steps { steps.new ≤ steps.old + 1 }
-{
-    match front.front() {
-        Some(next) => part.merge_from(alloc, &next.1, steps),
-        None => Ok(()),
-    }
-}
-
-// Turns entries with their own parts, but for the first `gone`, into ones with the merge from
-// theirs on, one step for each at most.
-fn sum_up<L: Ledger>(
-    alloc: Global,
-    gone: usize,
-    back: &mut Vec<(u64, Partial)>,
-    front: &mut VecDeque<(u64, Partial)>,
-    steps: &mut Steps<L>,
-) -> Result<(), NoMemory>
-    requires chained { Chained back.old.items }
-    requires there { gone ≤ length back.old.items }
-    requires none { front.old.items ≡ [] }
-    ensures front { OnOk result (front.new.items ≡ suffixes (drop gone back.old.items)) }
-    ensures steps { OnOk result (steps.new + gone ≤ steps.old + length back.old.items) }
-{
-    while gone < back.len() {
-        let Some((number, mut part)) = back.pop() else {
-            return Ok(());
-        };
-        merge_behind(alloc, &mut part, front, steps)?;
-        front.push_front((number, part))?;
-    }
-    Ok(())
-}
-
-// The entries of the back but for the first `gone` become the front, which had none. The memory of
-// both stays, with room for as many entries in the back again, and one more.
-fn turn<L: Ledger>(
-    alloc: Global,
-    gone: usize,
-    front: &mut VecDeque<(u64, Partial)>,
-    back: &mut Vec<(u64, Partial)>,
-    back_part: &mut Pile,
-    steps: &mut Steps<L>,
-) -> Result<(), NoMemory>
-    requires chained { Chained back.old.items }
-    requires there { gone ≤ length back.old.items }
-    requires none { front.old.items ≡ [] }
-    ensures front { OnOk result (front.new.items ≡ suffixes (drop gone back.old.items)) }
-    ensures back { OnOk result (back.new.items ≡ []) }
-    ensures part { OnOk result (back_part.new.part ≡ no_part) }
-    ensures pieces { OnOk result (back_part.new.pieces ≡ 0) }
-    ensures steps { OnOk result (steps.new ≤ steps.old + length back.old.items) }
-{
-    let count = back.len();
-    front.try_reserve_exact(count - gone)?;
-    sum_up(alloc, gone, back, front, steps)?;
-    back.clear();
-    back.try_reserve_exact(count + 1)?;
-    back_part.clear();
-    Ok(())
-}
-
-// The back becomes the front, where that is still to be done: one step for each of its entries at
-// most.
-fn settle<L: Ledger>(
-    alloc: Global,
-    late: &mut bool,
-    front: &mut VecDeque<(u64, Partial)>,
-    back: &mut Vec<(u64, Partial)>,
-    back_part: &mut Pile,
-    steps: &mut Steps<L>,
-) -> Result<(), NoMemory>
-    requires { IsSound late.old front.old.items back.old.items back_part.old.part }
-    ensures sound { OnOk result (Sound front.new.items back.new.items back_part.new.part) }
-    ensures late { OnOk result (late.new ≡ false) }
-    ensures entries { OnOk result (queue_entries front.new.items back.new.items back_part.new.part ≡ queue_entries front.old.items back.old.items back_part.old.part) }
-    ensures steps { OnOk result (steps.new + (length back.new.items + back_part.new.pieces) ≤ steps.old + (length back.old.items + back_part.old.pieces)) }
-{
-    if !*late {
-        return Ok(());
-    }
-    turn(alloc, 0, front, back, back_part, steps)?;
-    *late = false;
-    Ok(())
-}
-
-// Without the first entry, whose memory stays.
-fn drop_one(front: &mut VecDeque<(u64, Partial)>, spare: &mut Option<Partial>)
-    ensures { front.new.items ≡ drop 1 front.old.items }
-{
-    match front.pop_front() {
-        Some(entry) => *spare = Some(entry.1),
-        None => {}
-    }
-}
-
-// Without the entries at the front that window i doesn't have. The memory of the last of them
-// stays.
-fn drop_front(front: &mut VecDeque<(u64, Partial)>, spare: &mut Option<Partial>, i: u64)
-    ensures { front.new.items ≡ dropped_entries i front.old.items }
-{
-    loop {
-        match front.front() {
-            Some(entry) => {
-                if entry.0 > i {
-                    return;
-                }
-                drop_one(front, spare);
-            }
-            None => return,
-        }
-    }
-}
-
-// How many entries, from the first on, window i doesn't have.
-fn count_gone(back: &[(u64, Partial)], i: u64) -> usize
-    ensures gone { drop result back.now ≡ dropped_entries i back.now }
-    ensures within { result ≤ length back.now }
-{
-    for gone in 0..back.len() {
-        if back[gone].0 > i {
-            return gone;
-        }
-    }
-    back.len()
-}
-
-// Without the first entries. The memory of the first stays.
-fn drop_first(back: &mut Vec<(u64, Partial)>, spare: &mut Option<Partial>, gone: usize)
-    requires { gone ≤ length back.old.items }
-    ensures { back.new.items ≡ drop gone back.old.items }
-{
-    let mut entries = back.drain(..gone);
-    match entries.next() {
-        Some(entry) => *spare = Some(entry.1),
-        None => {}
-    }
-}
-
-// One entry more with its own part, and the merge of all: one step, if each piece more counts for
-// one.
-fn put_behind<L: Ledger>(
-    alloc: Global,
-    back: &mut Vec<(u64, Partial)>,
-    back_part: &mut Pile,
-    number: u64,
-    part: Partial,
-    steps: &mut Steps<L>,
-) -> Result<(), NoMemory>
-    requires { CanMerge back_part.old.part part }
-    ensures back { OnOk result (back.new.items ≡ back.old.items ++ (number, part) ∷ []) }
-    ensures part { OnOk result (back_part.new.part ≡ merge back_part.old.part part) }
-    ensures steps { OnOk result (steps.new + back_part.new.pieces ≤ steps.old + back_part.old.pieces + 1) }
-{
-    back.push((number, part))?;
-    match back.last() {
-        Some(entry) => back_part.take_from(alloc, &entry.1, steps),
-        None => Ok(()),
-    }
-}
-
-// The same, once the back is the front where that is still to be done.
-fn put_settled<L: Ledger>(
-    alloc: Global,
-    late: &mut bool,
-    front: &mut VecDeque<(u64, Partial)>,
-    back: &mut Vec<(u64, Partial)>,
-    back_part: &mut Pile,
-    number: u64,
-    part: Partial,
-    steps: &mut Steps<L>,
-) -> Result<(), NoMemory>
-    requires sound { IsSound late.old front.old.items back.old.items back_part.old.part }
-    requires room { CanFollow part (queue_entries front.old.items back.old.items back_part.old.part) }
-    ensures sound { OnOk result (Sound front.new.items back.new.items back_part.new.part) }
-    ensures late { OnOk result (late.new ≡ false) }
-    ensures entries { OnOk result (queue_entries front.new.items back.new.items back_part.new.part ≡ pushed_entries (queue_entries front.old.items back.old.items back_part.old.part) number part) }
-    ensures steps { OnOk result (steps.new + (length back.new.items + back_part.new.pieces) ≤ steps.old + (length back.old.items + back_part.old.pieces) + 2) }
-{
-    settle(alloc, late, front, back, back_part, steps)?;
-    put_behind(alloc, back, back_part, number, part, steps)?;
-    Ok(())
-}
-
-// The lines of the merge of all, once the back is the front where that is still to be done.
-fn lines_settled<L: Ledger>(
-    alloc: Global,
-    late: &mut bool,
-    front: &mut VecDeque<(u64, Partial)>,
-    back: &mut Vec<(u64, Partial)>,
-    back_part: &mut Pile,
-    plan: &Plan,
-    window: u64,
-    out: &mut Vec<u8>,
-    steps: &mut Steps<L>,
-) -> Result<(), NoMemory>
-    requires group { (tree_of plan.now).shape ≡ Group }
-    requires sound { IsSound late.old front.old.items back.old.items back_part.old.part }
-    ensures ok { OnOk result (out.new.items ≡ out.old.items ++ part_lines (tree_of plan.now) window (whole (queue_entries front.old.items back.old.items back_part.old.part))) }
-    ensures err { OnErr result (out.new.items ≡ out.old.items) }
-    ensures sound { OnOk result (Sound front.new.items back.new.items back_part.new.part) }
-    ensures late { OnOk result (late.new ≡ false) }
-    ensures entries { OnOk result (queue_entries front.new.items back.new.items back_part.new.part ≡ queue_entries front.old.items back.old.items back_part.old.part) }
-    ensures steps { OnOk result (steps.new + (length back.new.items + back_part.new.pieces) ≤ steps.old + (length back.old.items + back_part.old.pieces) + 1) }
-{
-    settle(alloc, late, front, back, back_part, steps)?;
-    match front.front() {
-        Some(first) => back_part.lines_behind(&first.1, plan, window, out, steps),
-        None => back_part.lines(plan, window, out, steps),
-    }
-}
-
-// The answers of the merge of all, once the back is the front where that is still to be done.
-fn answers_settled<L: Ledger>(
-    alloc: Global,
-    late: &mut bool,
-    front: &mut VecDeque<(u64, Partial)>,
-    back: &mut Vec<(u64, Partial)>,
-    back_part: &mut Pile,
-    plan: &Plan,
-    steps: &mut Steps<L>,
-) -> Result<Answers, NoMemory>
-    requires group { (tree_of plan.now).shape ≡ Group }
-    requires sound { IsSound late.old front.old.items back.old.items back_part.old.part }
-    ensures ok { IfOk result (λ a. a ≡ part_answers (tree_of plan.now) (whole (queue_entries front.old.items back.old.items back_part.old.part))) }
-    ensures sound { OnOk result (Sound front.new.items back.new.items back_part.new.part) }
-    ensures late { OnOk result (late.new ≡ false) }
-    ensures entries { OnOk result (queue_entries front.new.items back.new.items back_part.new.part ≡ queue_entries front.old.items back.old.items back_part.old.part) }
-    ensures steps { OnOk result (steps.new + (length back.new.items + back_part.new.pieces) ≤ steps.old + (length back.old.items + back_part.old.pieces) + 1) }
-{
-    settle(alloc, late, front, back, back_part, steps)?;
-    match front.front() {
-        Some(first) => back_part.answers_behind(alloc, &first.1, plan, steps),
-        None => back_part.answers(alloc, plan, steps),
-    }
+    ghost view = { λ s. queue_of s.form };
 }
 
 impl Sliding {
@@ -300,53 +49,41 @@ impl Sliding {
         ensures owed { result.owed ≡ 0 }
     {
         Sliding {
-            front: VecDeque::new(alloc),
-            back: Vec::new(alloc),
-            back_part: Pile::empty(alloc),
-            late: false,
-            spare: None,
+            form: Form::Ones(OneQueue::empty(alloc)),
         }
     }
 
-    /// The queue of entries with their own parts: one step for each.
-    pub(crate) fn of_entries<L: Ledger>(
-        alloc: Global,
-        entries: Vec<(u64, Partial)>,
-        steps: &mut Steps<L>,
-    ) -> Result<Sliding, NoMemory>
-        requires { Chained entries.items }
-        ensures entries { IfOk result (λ s. s.entries ≡ suffixes entries.items) }
-        ensures owed { IfOk result (λ s. s.owed ≡ 0) }
-        ensures steps { OnOk result (steps.new ≤ steps.old + length entries.items) }
+    // That of entries of many groups.
+    pub(crate) fn of_groups(queue: GroupQueue) -> Sliding
+        ensures { result ≡ queue }
     {
-        let mut back = entries;
-        let mut front = VecDeque::new(alloc);
-        front.try_reserve_exact(back.len())?;
-        sum_up(alloc, 0, &mut back, &mut front, steps)?;
-        Ok(Sliding {
-            front,
-            back: Vec::new(alloc),
-            back_part: Pile::empty(alloc),
-            late: false,
-            spare: None,
-        })
+        Sliding {
+            form: Form::Groups(queue),
+        }
+    }
+
+    // That of entries of one group each.
+    pub(crate) fn of_ones(queue: OneQueue) -> Sliding
+        ensures { result ≡ queue }
+    {
+        Sliding {
+            form: Form::Ones(queue),
+        }
     }
 
     /// The first entry's number.
+    #[inline(always)]
     pub fn first_number(&self) -> Option<u64>
         ensures { result ≡ first_number self.now.entries }
     {
-        match self.front.front() {
-            Some(entry) => Some(entry.0),
-            None => match self.back.first() {
-                Some(entry) => Some(entry.0),
-                None => None,
-            },
+        match &self.form {
+            Form::Groups(queue) => queue.first_number(),
+            Form::Ones(queue) => queue.first_number(),
         }
     }
 
-    /// A part of rows behind all others. It costs two steps, each now or later. After want of
-    /// memory nothing is kept.
+    /// A part of rows behind all others, unless it has no group. It costs two steps, each now or
+    /// later. After want of memory nothing is kept.
     #[inline(always)]
     pub fn push<L: Ledger>(
         &mut self,
@@ -356,59 +93,75 @@ impl Sliding {
         steps: &mut Steps<L>,
     ) -> Result<(), NoMemory>
         requires { CanFollow part self.old.entries }
-        ensures entries { OnOk result (self.new.entries ≡ pushed_entries self.old.entries number part) }
+        ensures entries { OnOk result (Entered self.old.entries number part self.new.entries) }
         ensures steps { OnOk result (steps.new + self.new.owed ≤ steps.old + self.old.owed + 2) }
     {
-        match put_settled(
-            alloc,
-            &mut self.late,
-            &mut self.front,
-            &mut self.back,
-            &mut self.back_part,
-            number,
-            part,
-            steps,
-        ) {
-            Ok(()) => Ok(()),
-            Err(lacks) => {
-                *self = Sliding::empty(alloc);
-                Err(lacks)
+        self.form.be_of_groups(alloc);
+        match &mut self.form {
+            Form::Groups(queue) => {
+                if part.is_empty() {
+                    return Ok(());
+                }
+                queue.push(alloc, number, part, steps)
             }
+            Form::Ones(queue) => match part.first() {
+                Some(own) => queue.push(alloc, number, &own, steps),
+                None => Ok(()),
+            },
         }
     }
 
-    // The same as `drop_to` where the first entry goes.
-    #[inline(never)]
-    fn drop_some(&mut self, i: u64)
-        ensures entries { self.new.entries ≡ dropped_entries i self.old.entries }
-        ensures owed { self.new.owed ≤ self.old.owed }
+    /// The part of one group behind all others. Else as `push`.
+    #[inline(always)]
+    pub fn push_one<L: Ledger>(
+        &mut self,
+        alloc: Global,
+        number: u64,
+        part: &RowPart,
+        steps: &mut Steps<L>,
+    ) -> Result<(), NoMemory>
+        requires { CanFollow part.now self.old.entries }
+        ensures entries { OnOk result (self.new.entries ≡ pushed_entries self.old.entries number part.now) }
+        ensures steps { OnOk result (steps.new + self.new.owed ≤ steps.old + self.old.owed + 2) }
     {
-        drop_front(&mut self.front, &mut self.spare, i);
-        if !self.front.is_empty() {
-            return;
+        self.form.suit(alloc, part);
+        match &mut self.form {
+            Form::Groups(queue) => queue.push_row(alloc, number, part, steps),
+            Form::Ones(queue) => queue.push(alloc, number, part, steps),
         }
-        let gone = count_gone(&self.back, i);
-        if gone == 0 {
-            return;
+    }
+
+    /// The part of a row behind all others: where the last entry has this number and is kept with
+    /// its own part, it goes into that; else it becomes an entry, as with `push`. It costs two
+    /// steps, each now or later. After want of memory it is only safe to let go.
+    #[inline(always)]
+    pub fn put<L: Ledger>(
+        &mut self,
+        alloc: Global,
+        number: u64,
+        part: &RowPart,
+        steps: &mut Steps<L>,
+    ) -> Result<(), NoMemory>
+        requires { CanFollow part.now self.old.entries }
+        ensures entries { OnOk result (Put self.old.entries number part.now self.new.entries) }
+        ensures steps { OnOk result (steps.new + self.new.owed ≤ steps.old + self.old.owed + 2) }
+    {
+        self.form.suit(alloc, part);
+        match &mut self.form {
+            Form::Groups(queue) => queue.put(alloc, number, part, steps),
+            Form::Ones(queue) => queue.put(alloc, number, part, steps),
         }
-        drop_first(&mut self.back, &mut self.spare, gone);
-        self.back_part.clear();
-        self.late = true;
     }
 
     /// Drops the entries at the front that window i doesn't have. Takes no memory and no step.
-    #[inline]
+    #[inline(always)]
     pub fn drop_to(&mut self, i: u64)
         ensures entries { self.new.entries ≡ dropped_entries i self.old.entries }
         ensures owed { self.new.owed ≤ self.old.owed }
     {
-        match self.first_number() {
-            Some(number) => {
-                if number <= i {
-                    self.drop_some(i);
-                }
-            }
-            None => {}
+        match &mut self.form {
+            Form::Groups(queue) => queue.drop_to(i),
+            Form::Ones(queue) => queue.drop_to(i),
         }
     }
 
@@ -429,24 +182,9 @@ impl Sliding {
         ensures err { OnErr result (out.new.items ≡ out.old.items) }
         ensures steps { OnOk result (steps.new + self.new.owed ≤ steps.old + self.old.owed + 1) }
     {
-        let alloc = *self.back.allocator();
-        let written = lines_settled(
-            alloc,
-            &mut self.late,
-            &mut self.front,
-            &mut self.back,
-            &mut self.back_part,
-            plan,
-            window,
-            out,
-            steps,
-        );
-        match written {
-            Ok(()) => Ok(()),
-            Err(lacks) => {
-                *self = Sliding::empty(alloc);
-                Err(lacks)
-            }
+        match &mut self.form {
+            Form::Groups(queue) => queue.lines(plan, window, out, steps),
+            Form::Ones(queue) => queue.lines(plan, window, out, steps),
         }
     }
 
@@ -462,22 +200,9 @@ impl Sliding {
         ensures same { OnOk result (self.new.entries ≡ self.old.entries) }
         ensures steps { OnOk result (steps.new + self.new.owed ≤ steps.old + self.old.owed + 1) }
     {
-        let alloc = *self.back.allocator();
-        let all = answers_settled(
-            alloc,
-            &mut self.late,
-            &mut self.front,
-            &mut self.back,
-            &mut self.back_part,
-            plan,
-            steps,
-        );
-        match all {
-            Ok(answers) => Ok(answers),
-            Err(lacks) => {
-                *self = Sliding::empty(alloc);
-                Err(lacks)
-            }
+        match &mut self.form {
+            Form::Groups(queue) => queue.answers(plan, steps),
+            Form::Ones(queue) => queue.answers(plan, steps),
         }
     }
 }

@@ -5,7 +5,7 @@ ghost use Rattle.saber_plan.specs.Parts.{merge};
 ghost use Rattle.saber_partial.specs.Tallies.{CanMerge};
 ghost use Rattle.saber_sliding.specs.Entries.{joined_entries, last_number, pushed_entries, suffixes, CanFollow, Put};
 
-use crate::queue::Sliding;
+use crate::groups::GroupQueue;
 use saber_partial::{Partial, Pile, RowPart, Steps};
 use saber_plan::NoMemory;
 use std::alloc::Global;
@@ -60,9 +60,9 @@ fn join_behind<L: Ledger>(
     back_part.take_row(alloc, part, steps)
 }
 
-impl Sliding {
-    // The part of a row becomes an entry, as with `push`, in the memory of one that went.
-    fn push_row<L: Ledger>(
+impl GroupQueue {
+    /// The part of a row becomes an entry, as with `push`, in the memory of one that went.
+    pub(crate) fn push_row<L: Ledger>(
         &mut self,
         alloc: Global,
         number: u64,
@@ -80,7 +80,7 @@ impl Sliding {
     /// The part of a row behind all others: where the last entry has this number and is kept with
     /// its own part, it goes into that; else it becomes an entry, as with `push`. It costs two
     /// steps, each now or later. After want of memory it is only safe to let go.
-    pub fn put<L: Ledger>(
+    pub(crate) fn put<L: Ledger>(
         &mut self,
         alloc: Global,
         number: u64,
@@ -104,7 +104,7 @@ impl Sliding {
         ) {
             Ok(()) => Ok(()),
             Err(lacks) => {
-                *self = Sliding::empty(alloc);
+                *self = GroupQueue::empty(alloc);
                 Err(lacks)
             }
         }

@@ -2,24 +2,11 @@
 use Rattle.std.proofs.Common.{◌≡◌, ◌≢◌, ℕ, suc, ◌+◌, List, [], ◌∷◌, ◌++◌, refl, sym, ◌∙◌, ap, subst, arith, append_assoc}
 use Rattle.std.specs.List.{AllByRecursion}
 use Rattle.saber_notes.specs.Notes.{status_of}
-use Rattle.saber_notes.specs.ManyNotes.{early_status, first_status, lines_from, query_line}
-use Rattle.saber_notes.specs.declared.early.Early.{Early}
-use Rattle.saber_notes.specs.declared.early.Early.TheVariants as early
+use Rattle.saber_notes.specs.ManyNotes.{first_status, lines_from, query_line}
 use Rattle.saber_notes.specs.declared.outcome.Outcome.{Outcome}
 use Rattle.saber_notes.specs.declared.outcome.Outcome.TheVariants.{Done, Usage, FileCount, QueryFault, SecondQueryFault, Unchainable, LineRefused, ChainLineRefused, OpenFault, ReadFault, WriteFault, TooWide, NoMemory}
 
 -- ---- of one
-
--- an end before any query is run has a status of its own
-pub early_some : (e : Early) → early_status e ≡ 0 → ⊥
-early_some early.Usage z = omega (arith, z)
-early_some (early.QueryUnopened j) z = omega (arith, z)
-early_some (early.QueryUnread j) z = omega (arith, z)
-early_some (early.QueryFault j byte cause) z = omega (arith, z)
-early_some (early.Unshareable j) z = omega (arith, z)
-early_some early.LeftUnopened z = omega (arith, z)
-early_some (early.CreateFault j) z = omega (arith, z)
-early_some early.NoMemory z = omega (arith, z)
 
 -- a fact of each of none
 pub none_all : {X : Type 0} (P : X → Type 0) (xs : List X) → xs ≡ [] → AllByRecursion P xs

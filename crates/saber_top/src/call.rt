@@ -16,8 +16,8 @@ use crate::many::{Came, many_words};
 use crate::parts::PartList;
 use crate::tells::{tell, whole_status};
 use saber_cli::{Ended, saber};
+use saber_engine::Means;
 use saber_io::{Files, Gate, Outs, Sink};
-use std::alloc::Global;
 use std::sync::Wait;
 use std::thread::Threads;
 
@@ -43,13 +43,11 @@ fn one_command<
     R: Threads + Wait + Sync,
     T,
 >(
-    rt: &R,
-    alloc: Global,
+    means: &Means<'_, G, R>,
     words: &[&str],
     files: &mut F,
     sink: K,
     notes: &mut N,
-    gate: &G,
 ) -> ended::Top<K, T>
 where
     F::Src: Send + Drop,
@@ -65,14 +63,14 @@ where
         tasks,
         noted,
         outcome,
-    } = saber(rt, alloc, words, files, sink, notes, gate);
+    } = saber(means.rt, means.alloc, words, files, sink, notes, means.gate);
     ended::Top {
         status,
         sink,
         tasks,
         noted,
         end: TopEnd::One(outcome),
-        parts: PartList::none(alloc),
+        parts: PartList::none(means.alloc),
     }
 }
 
@@ -92,14 +90,12 @@ pub fn top<
     G: Gate + Sync,
     R: Threads + Wait + Sync,
 >(
-    rt: &R,
-    alloc: Global,
+    means: &Means<'_, G, R>,
     words: &[&str],
     files: &mut F,
     outs: &mut U,
     sink: K,
     notes: &mut N,
-    gate: &G,
 ) -> ended::Top<K, U::Out>
 where
     F::Src: Send + Drop,
@@ -110,9 +106,9 @@ where
         files.old files.new outs.old outs.new sink notes.old notes.new result }
 {
     if !is_many(words) {
-        return one_command(rt, alloc, words, files, sink, notes, gate);
+        return one_command(means, words, files, sink, notes);
     }
-    let Came { end, parts } = many_words(rt, alloc, words, files, outs, gate);
+    let Came { end, parts } = many_words(means, words, files, outs);
     let noted = tell(notes, end, &parts);
     ended::Top {
         status: whole_status(end, &parts),

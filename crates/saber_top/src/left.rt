@@ -20,25 +20,22 @@ ghost use Rattle.saber_top.specs.Ends.{IsCreateEnd, IsFileEnd, IsReadWell};
 use crate::outs::job_each;
 use crate::parts::{PartList, part_all};
 use saber_cli::{InputFile, close_rows, open_row};
-use saber_engine::{Inputs, engines};
+use saber_engine::{Inputs, Means, engines};
 use saber_io::{Files, Gate, Outs, Source};
 use saber_notes::{Early, Outcome};
 use saber_plan::{Plan, Sizes};
-use std::alloc::Global;
 use std::collections::VecDeque;
 use std::sync::Wait;
 use std::thread::Threads;
 
 /// Creates the files of the answers, and runs the plans over one source, each into its own file.
 fn run_source<S: Source, U: Outs, G: Gate + Sync, R: Threads + Wait + Sync>(
-    rt: &R,
-    alloc: Global,
+    means: &Means<'_, G, R>,
     plans: &[Plan],
     inputs: &mut Inputs<S>,
     names: &[&str],
     outs: &mut U,
     sizes: &Sizes,
-    gate: &G,
 ) -> Result<PartList<U::Out>, Early>
     requires some { plans.now ≢ [] }
     requires few { length plans.now ≤ 8 }
@@ -63,6 +60,7 @@ fn run_source<S: Source, U: Outs, G: Gate + Sync, R: Threads + Wait + Sync>(
     ensures good { OnOk result (U.faults outs.new ≡ U.faults outs.old) }
     ensures other_good { IfErr result (λ e. (IsCreateEnd e → ⊥) → U.faults outs.new ≡ U.faults outs.old) }
 {
+    let alloc = means.alloc;
     let parts = match VecDeque::with_capacity(alloc, plans.len()) {
         Ok(parts) => parts,
         Err(_) => return Err(Early::NoMemory),
@@ -71,7 +69,7 @@ fn run_source<S: Source, U: Outs, G: Gate + Sync, R: Threads + Wait + Sync>(
         Ok(jobs) => jobs,
         Err(early) => return Err(early),
     };
-    match engines(rt, alloc, Vec::from(jobs), inputs, sizes, gate) {
+    match engines(means.rt, alloc, Vec::from(jobs), inputs, sizes, means.gate) {
         Ok(rans) => Ok(part_all(rans, sizes.ring, parts)),
         Err(_) => Err(Early::NoMemory),
     }
@@ -90,15 +88,13 @@ fn unopened(outcome: Outcome) -> Early
 
 /// Opens the left file, runs the plans over it, and gives it back.
 pub(crate) fn run_left<F: Files, U: Outs, G: Gate + Sync, R: Threads + Wait + Sync>(
-    rt: &R,
-    alloc: Global,
+    means: &Means<'_, G, R>,
     plans: &[Plan],
     files: &mut F,
     left: &str,
     names: &[&str],
     outs: &mut U,
     sizes: &Sizes,
-    gate: &G,
 ) -> Result<PartList<U::Out>, Early>
     requires some { plans.now ≢ [] }
     requires few { length plans.now ≤ 8 }
@@ -131,12 +127,12 @@ pub(crate) fn run_left<F: Files, U: Outs, G: Gate + Sync, R: Threads + Wait + Sy
     ensures good { OnOk result (U.faults outs.new ≡ U.faults outs.old) }
     ensures other_good { IfErr result (λ e. (IsCreateEnd e → ⊥) → U.faults outs.new ≡ U.faults outs.old) }
 {
-    let source = match open_row(alloc, files, left, InputFile::Left) {
+    let source = match open_row(means.alloc, files, left, InputFile::Left) {
         Ok(source) => source,
         Err(outcome) => return Err(unopened(outcome)),
     };
     let mut inputs = Inputs::One(source);
-    match run_source(rt, alloc, plans, &mut inputs, names, outs, sizes, gate) {
+    match run_source(means, plans, &mut inputs, names, outs, sizes) {
         Ok(parts) => {
             close_rows(files, inputs);
             Ok(parts)

@@ -7,8 +7,8 @@
 //!   (the plans of all queries, and whether they can share an input), `left` (they are run over the
 //!   left file), `outs` (the files that the answers go to), `parts` (what came of each), `tells`
 //!   (the status and the notes).
-//! - Call: `top` takes words, files, files that are created, a sink, a sink for notes and a gate,
-//!   and gives `Top`.
+//! - Call: `top` takes `Means` (the runtime, memory and a gate), words, files, files that are
+//!   created, a sink and a sink for notes, and gives `Top`.
 //! - Proved: of other words than `many` all that `saber` says. Of `many`: why no query was run, the
 //!   first of all that is at fault; or of each query all that a run of it alone says, over its own
 //!   file, whatever became of the others; which files were asked for, given back and created, that
@@ -31,3 +31,4 @@ mod tells;
 pub use call::top;
 pub use ended::TopEnd;
 pub use parts::{Part, PartList};
+pub use saber_engine::Means;

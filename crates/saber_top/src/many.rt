@@ -1,7 +1,6 @@
 // The command `many`: several queries over one input.
 ghost use Rattle.std.specs.Prelude.{◌≡◌, ◌≢◌, ◌≤◌, [], None, Some, IfOk, IfErr, OnOk, length, map};
 ghost use Rattle.saber_plan.specs.Outputs.{Rose};
-ghost use Rattle.saber_plan.specs.Sizes.{SizesFit};
 ghost use Rattle.saber_words.specs.Many.{AskedMany, asked_many, many_of, HasManySizes};
 ghost use Rattle.saber_notes.specs.declared.early.Early.{Early};
 ghost use Rattle.saber_top.specs.declared.ended.TopEnd.{TopEnd};
@@ -13,9 +12,9 @@ use crate::ended::TopEnd;
 use crate::left::run_left;
 use crate::parts::PartList;
 use crate::plans::shared_plans;
+use saber_engine::Means;
 use saber_io::{Files, Gate, Outs};
 use saber_notes::Early;
-use saber_plan::Sizes;
 use saber_words::{Many, WordsFault, read_many};
 use std::alloc::Global;
 use std::sync::Wait;
@@ -39,31 +38,12 @@ fn ended_before<T>(alloc: Global, early: Early) -> Came<T>
     }
 }
 
-// The sizes of each query.
-fn sizes_of(many: &Many<'_>) -> Sizes
-    requires { HasManySizes (asked_many many.now) }
-    ensures sizes { result ≡ (asked_many many.now).sizes }
-    ensures fit { SizesFit result }
-    ensures threads { result.threads ≤ 8 }
-{
-    Sizes {
-        task: many.task,
-        ring: many.ring,
-        threads: many.threads,
-        max_lines: many.max_lines,
-        slack: many.slack,
-        flush: many.flush,
-    }
-}
-
 // Reads and checks the queries, and runs them over the left file.
 fn many_parts<F: Files, U: Outs, G: Gate + Sync, R: Threads + Wait + Sync>(
-    rt: &R,
-    alloc: Global,
+    means: &Means<'_, G, R>,
     many: &Many<'_>,
     files: &mut F,
     outs: &mut U,
-    gate: &G,
 ) -> Result<PartList<U::Out>, Early>
     requires { HasManySizes (asked_many many.now) }
     ensures parts { IfOk result (λ parts. ComesTo F.told U.asked U.Out.written U.Out.writes (asked_many many.now) files.old files.new outs.old outs.new TopEnd.Each (parts_in parts)) }
@@ -75,21 +55,18 @@ fn many_parts<F: Files, U: Outs, G: Gate + Sync, R: Threads + Wait + Sync>(
     ensures outs_other { IfErr result (λ e. (IsCreateEnd e → ⊥) → U.faults outs.new ≡ U.faults outs.old) }
     ensures read { IfErr result (λ e. e ≢ Early.Usage) }
 {
-    let plans = match shared_plans(alloc, files, &many.queries) {
+    let plans = match shared_plans(means.alloc, files, &many.queries) {
         Ok(plans) => plans,
         Err(early) => return Err(early),
     };
-    let sizes = sizes_of(many);
     match run_left(
-        rt,
-        alloc,
+        means,
         &plans.list,
         files,
         many.left,
         &many.queries,
         outs,
-        &sizes,
-        gate,
+        &many.sizes,
     ) {
         Ok(parts) => {
             plans.let_go();
@@ -104,12 +81,10 @@ fn many_parts<F: Files, U: Outs, G: Gate + Sync, R: Threads + Wait + Sync>(
 
 /// `many`: its queries over the left file, each into its own file.
 fn many_command<F: Files, U: Outs, G: Gate + Sync, R: Threads + Wait + Sync>(
-    rt: &R,
-    alloc: Global,
+    means: &Means<'_, G, R>,
     many: &Many<'_>,
     files: &mut F,
     outs: &mut U,
-    gate: &G,
 ) -> Came<U::Out>
     requires { HasManySizes (asked_many many.now) }
     ensures comes { ComesTo F.told U.asked U.Out.written U.Out.writes (asked_many many.now) files.old files.new outs.old outs.new result.end (parts_in result.parts) }
@@ -120,12 +95,12 @@ fn many_command<F: Files, U: Outs, G: Gate + Sync, R: Threads + Wait + Sync>(
     ensures read { result.end ≢ TopEnd.Before Early.Usage }
     ensures few { length (parts_in result.parts) ≤ 8 }
 {
-    match many_parts(rt, alloc, many, files, outs, gate) {
+    match many_parts(means, many, files, outs) {
         Ok(parts) => Came {
             end: TopEnd::Each,
             parts,
         },
-        Err(early) => ended_before(alloc, early),
+        Err(early) => ended_before(means.alloc, early),
     }
 }
 
@@ -141,12 +116,10 @@ fn unread_many(fault: WordsFault) -> Early
 
 /// Reads the words of `many`, and does what they ask for.
 pub(crate) fn many_words<F: Files, U: Outs, G: Gate + Sync, R: Threads + Wait + Sync>(
-    rt: &R,
-    alloc: Global,
+    means: &Means<'_, G, R>,
     words: &[&str],
     files: &mut F,
     outs: &mut U,
-    gate: &G,
 ) -> Came<U::Out>
     ensures comes { (m : AskedMany) → many_of (map (λ word. word.now) words.now) ≡ Some m →
         ComesTo F.told U.asked U.Out.written U.Out.writes m files.old files.new outs.old outs.new result.end (parts_in result.parts) }
@@ -158,8 +131,8 @@ pub(crate) fn many_words<F: Files, U: Outs, G: Gate + Sync, R: Threads + Wait + 
     ensures usage { result.end ≡ TopEnd.Before Early.Usage → many_of (map (λ word. word.now) words.now) ≡ None }
     ensures few { length (parts_in result.parts) ≤ 8 }
 {
-    match read_many(alloc, words) {
-        Ok(many) => many_command(rt, alloc, &many, files, outs, gate),
-        Err(fault) => ended_before(alloc, unread_many(fault)),
+    match read_many(means.alloc, words) {
+        Ok(many) => many_command(means, &many, files, outs),
+        Err(fault) => ended_before(means.alloc, unread_many(fault)),
     }
 }

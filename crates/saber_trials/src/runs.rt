@@ -7,7 +7,7 @@ use crate::refusals::Refused;
 use crate::wanted::{Seen, SeenPart};
 use saber_io::{Files, MemFiles, MemOuts, MemSink, Outs, Sink};
 use saber_notes::Noted;
-use saber_top::{PartList, ended, top};
+use saber_top::{Means, PartList, ended, top};
 use std::alloc::{AllocError, Global};
 use std::sync::Wait;
 use std::thread::Threads;
@@ -44,7 +44,7 @@ where
         noted,
         end: _,
         parts,
-    } = top(rt, alloc, words, files, outs, sink, notes, gate);
+    } = top(&Means { rt, alloc, gate }, words, files, outs, sink, notes);
     Came {
         status,
         sink,

@@ -2,7 +2,7 @@
 use Rattle.std.proofs.Common.{◌≡◌, ◌^◌, ℕ, refl, codes, true, false, List, [], ◌∷◌, Option, Some, None}
 use Rattle.clap.specs.Walk.{Text}
 use Rattle.clap.proofs.OnLiterals.{clap_on_literals}
-use Rattle.saber_words.specs.Commands.{Asked, chain, check, command_of, demo, plain_chain, plain_demo, is_taken, plain_run, run}
+use Rattle.saber_words.specs.Commands.{Asked, chain, check, command_of, demo, plain_chain, plain_demo, is_taken, plain_run, run, usual_sizes}
 
 saber : List Text → Option Asked
 saber words = command_of (codes "saber" ∷ words)
@@ -50,7 +50,7 @@ too_many_rows : saber (codes "demo" ∷ codes "0" ∷ codes "1048577" ∷ []) �
 unfolding saber command_of is_taken clap_on_literals
 too_many_rows = refl
 
-sizes_of_demo : saber (codes "demo" ∷ codes "1" ∷ codes "--task" ∷ codes "3" ∷ codes "9" ∷ codes "--ring=1" ∷ codes "--threads" ∷ codes "0" ∷ []) ≡ Some (demo (record { seed = 1; rows = 9; task = 3; ring = 1; threads = 0 }))
+sizes_of_demo : saber (codes "demo" ∷ codes "1" ∷ codes "--task" ∷ codes "3" ∷ codes "9" ∷ codes "--ring=1" ∷ codes "--threads" ∷ codes "0" ∷ []) ≡ Some (demo (record { seed = 1; rows = 9; sizes = record usual_sizes { task = 3; ring = 1; threads = 0 } }))
 unfolding saber command_of is_taken clap_on_literals
 sizes_of_demo = refl
 

@@ -6,12 +6,14 @@ use Rattle.clap.specs.Walk.{Row, Text, first_of}
 use Rattle.clap.specs.Simple.{subcommand_of}
 use Rattle.clap.specs.Kinds.{Kinds}
 use Rattle.clap.specs.Faults.{fault_of}
-use Rattle.saber_words.specs.Commands.{Numbers, max_lines, ring, sizes_with, slack, task}
+use Rattle.saber_plan.specs.declared.sizes.Sizes.{Sizes}
+use Rattle.saber_plan.specs.Sizes.{SizesFit}
+use Rattle.saber_words.specs.Commands.{max_lines, ring, sizes_by, slack, task}
 use Rattle.saber_words.specs.Numbers.{number_by}
 use Rattle.saber_words.specs.Flags.{flag_by}
-use Rattle.saber_words.specs.Many.{AskedMany, HasManySizes, few_numbers_by, few_threads, many_app, many_by, many_in, many_of, many_with, others, queries_by, queries_in}
+use Rattle.saber_words.specs.Many.{AskedMany, HasManySizes, few_threads, many_app, many_by, many_in, many_of, many_with, others, queries_by, queries_in}
 use Rattle.saber_words.proofs.Parses.{taken_if}
-use Rattle.saber_words.proofs.Sizes.{bounds_of, numbers_sized}
+use Rattle.saber_words.proofs.Sizes.{AreSized, bounds_of, sizes_fit}
 
 -- of so many positionals there are no more values
 queries_few : (ids : List Text) (rows : List Row) → length (queries_in ids rows) ≤ length ids
@@ -22,31 +24,24 @@ queries_few (id ∷ ids) rows = go (first_of id rows) (queries_few ids rows)
     go None few = omega (arith, few)
     go (Some query) few = omega (arith, few)
 
--- the bounds of the numbers
-abbrev AreFew : Numbers → Type 0
-AreFew n = (1 ≤ n.task) × (n.task ≤ 65536) × (1 ≤ n.ring) × (n.ring ≤ 1024) × (n.threads ≤ 8) × (1 ≤ n.most) × (n.most ≤ 2 ^ 40) × (n.slack ≤ 2 ^ 40)
-
-with_sized : (left : Option Text) (queries : List Text) (numbers : Option Numbers) (flush : Bool) (m : AskedMany) → length queries ≤ 8 → ((n : Numbers) → numbers ≡ Some n → AreFew n)
-    → many_with left queries numbers flush ≡ Some m → HasManySizes m
-with_sized None queries numbers flush m eight few is = cc
-with_sized (Some left) [] numbers flush m eight few is = cc
-with_sized (Some left) (query ∷ more) None flush m eight few is = cc
-with_sized (Some left) (query ∷ more) (Some n) flush m eight few is =
-    let whole : AskedMany = record { left = left; queries = query ∷ more; sizes = sizes_with n flush } in
+with_sized : (left : Option Text) (queries : List Text) (sizes : Option Sizes) (m : AskedMany) → length queries ≤ 8 → ((s : Sizes) → sizes ≡ Some s → SizesFit s × (s.threads ≤ 8))
+    → many_with left queries sizes ≡ Some m → HasManySizes m
+with_sized None queries sizes m eight fit is = cc
+with_sized (Some left) [] sizes m eight fit is = cc
+with_sized (Some left) (query ∷ more) None m eight fit is = cc
+with_sized (Some left) (query ∷ more) (Some s) m eight fit is =
+    let whole : AskedMany = record { left = left; queries = query ∷ more; sizes = s } in
     let same : whole ≡ m = cc in
-    let f = few n refl in
-    subst HasManySizes same (record {
-      some_queries = omega arith;
-      few_queries = eight;
-      few_threads = f.4;
-      fit = record { task = (f.0, f.1); ring = (f.2, f.3); threads = omega (arith, f.4); lines = (f.5, f.6); slack = f.7 };
-    })
+    let f = fit s refl in
+    subst HasManySizes same (record { some_queries = omega arith; few_queries = eight; few_threads = f.1; fit = f.0 })
 
 by_sized : (rows : List Row) (m : AskedMany) → many_by rows ≡ Some m → HasManySizes m
 by_sized rows m is =
-    with_sized (first_of (codes "left") rows) (queries_by rows) (few_numbers_by rows) (flag_by (codes "final") rows) m (queries_few (codes "first" ∷ others) rows)
-    (λ n. numbers_sized few_threads (number_by task rows) (number_by ring rows) (number_by few_threads rows) (number_by max_lines rows) (number_by slack rows) n
-    (bounds_of task rows) (bounds_of ring rows) (bounds_of few_threads rows) (bounds_of max_lines rows) (bounds_of slack rows)) is
+    let flush = flag_by (codes "final") rows in
+    let fits : (s : Sizes) → sizes_by few_threads rows flush ≡ Some s → AreSized 8 flush s =
+    λ s. sizes_fit few_threads (number_by task rows) (number_by ring rows) (number_by few_threads rows) (number_by max_lines rows) (number_by slack rows) flush s (omega arith)
+    (bounds_of task rows) (bounds_of ring rows) (bounds_of few_threads rows) (bounds_of max_lines rows) (bounds_of slack rows) in
+    with_sized (first_of (codes "left") rows) (queries_by rows) (sizes_by few_threads rows flush) m (queries_few (codes "first" ∷ others) rows) (λ s found. ((fits s found).0, (fits s found).1)) is
 
 -- what words ask for has its sizes within their bounds
 pub many_of-sized : (words : List Text) (m : AskedMany) → many_of words ≡ Some m → HasManySizes m

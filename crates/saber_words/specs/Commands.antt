@@ -7,14 +7,13 @@ use Rattle.saber_plan.specs.Sizes.{SizesFit}
 use Rattle.saber_words.specs.Numbers.{Numeric, number_by, number_in, number_rule}
 use Rattle.saber_words.specs.Flags.{flag_by, flag_rule}
 use Rattle.saber_words.specs.Demo.{AskedDemo, HasDemoSizes, asked_demo, demo_with, positional_rule, rows, seed}
-use Rattle.saber_words.specs.Chain.{AskedChain, asked_chain}
+use Rattle.saber_words.specs.Chain.{AskedChain, HasChainSizes, asked_chain}
 use Rattle.clap.specs.Kinds.{Kinds}
 use Rattle.clap.specs.Simple.{App, Shape, new_rule, new_shape, subcommand_of}
 use Rattle.clap.specs.Faults.{fault_of}
 use Rattle.saber_words.specs.declared.commands.Run.{Run}
 use Rattle.saber_words.specs.declared.commands.Command.{Command}
 use Rattle.saber_words.specs.declared.commands.Command.TheVariants as command
-use Rattle.saber_words.specs.declared.numbers.RunSizes.{RunSizes}
 
 -- ---- what may be asked for
 
@@ -39,12 +38,7 @@ pub data Asked : Type 0 where
 
 -- what a command asks for
 abbrev pub asked_run : Run → AskedRun
-asked_run r = record {
-  query = r.query.now;
-  left = r.left.now;
-  right = option_map (λ name. name.now) r.right;
-  sizes = record { task = r.task; ring = r.ring; threads = r.threads; max_lines = r.max_lines; slack = r.slack; flush = r.flush };
-}
+asked_run r = record { query = r.query.now; left = r.rows.left.now; right = option_map (λ name. name.now) r.rows.right; sizes = r.sizes }
 
 abbrev pub asked_command : Command → Asked
 asked_command (command.Run r) = run (asked_run r)
@@ -127,48 +121,37 @@ abbrev pub IsSized : Asked → Type 0
 IsSized (run r) = SizesFit r.sizes
 IsSized (check c) = ⊤
 IsSized (demo d) = HasDemoSizes d
-IsSized (chain a) = SizesFit a.sizes
+IsSized (chain a) = HasChainSizes a
 
 -- ---- the words
 
--- the numbers of a run's options
-pub record Numbers : Type 0 where
-  pub task : ℕ
-  pub ring : ℕ
-  pub threads : ℕ
-  pub most : ℕ
-  pub slack : ℕ
+-- the sizes of a run, if all numbers were found, and whether the end of the input closes the windows that are begun
+abbrev pub sizes_with : Option ℕ → Option ℕ → Option ℕ → Option ℕ → Option ℕ → Bool → Option Sizes
+sizes_with (Some task) (Some ring) (Some threads) (Some most) (Some slack) flush =
+    Some (record { task = task; ring = ring; threads = threads; max_lines = most; slack = slack; flush = flush })
+sizes_with _ _ _ _ _ flush = None
 
--- those that the code has
-abbrev pub numbers_of : RunSizes → Numbers
-numbers_of s = record { task = s.task; ring = s.ring; threads = s.threads; most = s.max_lines; slack = s.slack }
+-- with this option for the threads
+abbrev pub sizes_by : Numeric → List Row → Bool → Option Sizes
+sizes_by crew rows = sizes_with (number_by task rows) (number_by ring rows) (number_by crew rows) (number_by max_lines rows) (number_by slack rows)
 
--- if all were found
-abbrev pub numbers_with : Option ℕ → Option ℕ → Option ℕ → Option ℕ → Option ℕ → Option Numbers
-numbers_with (Some task) (Some ring) (Some threads) (Some most) (Some slack) =
-    Some (record { task = task; ring = ring; threads = threads; most = most; slack = slack })
-numbers_with _ _ _ _ _ = None
+-- of a run over generated rows, of which there are fewer than a file may have lines
+abbrev pub generated_by : List Row → Option Sizes
+generated_by rows = sizes_with (number_by task rows) (number_by ring rows) (number_by threads rows) (Some (2 ^ 40)) (Some 0) false
 
-abbrev pub numbers_by : List Row → Option Numbers
-numbers_by rows = numbers_with (number_by task rows) (number_by ring rows) (number_by threads rows) (number_by max_lines rows) (number_by slack rows)
+-- a run over these files, in these sizes
+abbrev pub run_over : Text → Text → Option Text → Sizes → Asked
+run_over query left right sizes = run (record { query = query; left = left; right = right; sizes = sizes })
 
--- the sizes that they ask for, and whether the end of the input closes the windows that are begun
-abbrev pub sizes_with : Numbers → Bool → Sizes
-sizes_with n flush = record { task = n.task; ring = n.ring; threads = n.threads; max_lines = n.most; slack = n.slack; flush = flush }
-
--- a run over these files, with these numbers
-abbrev pub run_over : Text → Text → Option Text → Numbers → Bool → Asked
-run_over query left right n flush = run (record { query = query; left = left; right = right; sizes = sizes_with n flush })
-
--- what `run` asks for, by the values of its positionals, the numbers of its options, and whether `--final` was given
-abbrev pub run_with : Option Text → Option Text → Option Text → Option Numbers → Bool → Option Asked
-run_with (Some query) (Some left) right (Some n) flush = Some (run_over query left right n flush)
-run_with _ _ right _ flush = None
+-- what `run` asks for, by the values of its positionals and its sizes
+abbrev pub run_with : Option Text → Option Text → Option Text → Option Sizes → Option Asked
+run_with (Some query) (Some left) right (Some sizes) = Some (run_over query left right sizes)
+run_with _ _ right _ = None
 
 abbrev pub run_by : List Row → Option Asked
 run_by rows = run_with
     (first_of (codes "query") rows) (first_of (codes "left") rows) (first_of (codes "right") rows)
-    (numbers_by rows) (flag_by (codes "final") rows)
+    (sizes_by threads rows (flag_by (codes "final") rows))
 
 -- what `check` asks for
 abbrev pub check_by : List Row → Option Asked
@@ -176,21 +159,21 @@ check_by rows = option_map (λ query. check (record { query = query })) (first_o
 
 -- what `demo` asks for
 abbrev pub demo_by : List Row → Option Asked
-demo_by found = option_map demo (demo_with (number_by seed found) (number_by rows found) (number_by task found) (number_by ring found) (number_by threads found))
+demo_by found = option_map demo (demo_with (number_by seed found) (number_by rows found) (generated_by found))
 
--- a chain over these files, with these numbers
-abbrev pub chain_over : Text → Text → Text → Option Text → Numbers → Asked
-chain_over first second left right n = chain (record { first = first; second = second; left = left; right = right; sizes = sizes_with n false })
+-- a chain over these files, in these sizes
+abbrev pub chain_over : Text → Text → Text → Option Text → Sizes → Asked
+chain_over first second left right sizes = chain (record { first = first; second = second; left = left; right = right; sizes = sizes })
 
--- what `chain` asks for, by the values of its positionals and the numbers of its options
-abbrev pub chain_with : Option Text → Option Text → Option Text → Option Text → Option Numbers → Option Asked
-chain_with (Some first) (Some second) (Some left) right (Some n) = Some (chain_over first second left right n)
+-- what `chain` asks for, by the values of its positionals and its sizes
+abbrev pub chain_with : Option Text → Option Text → Option Text → Option Text → Option Sizes → Option Asked
+chain_with (Some first) (Some second) (Some left) right (Some sizes) = Some (chain_over first second left right sizes)
 chain_with _ _ _ right _ = None
 
 abbrev pub chain_by : List Row → Option Asked
 chain_by rows = chain_with
     (first_of (codes "first") rows) (first_of (codes "second") rows) (first_of (codes "left") rows) (first_of (codes "right") rows)
-    (numbers_by rows)
+    (sizes_by threads rows false)
 
 -- what a subcommand asks for, by its name and the values of its arguments
 abbrev pub asked_by : Text × List Row → Option Asked
@@ -224,14 +207,14 @@ is_flag _ = false
 abbrev pub is_file_name : Text → Bool
 is_file_name word = not (is_flag word)
 
--- the numbers where the words give no option: 1,024 rows a task, a ring of 64 cells, two threads, all lines that a file may have, and timestamps that
--- don't fall
-abbrev pub usual_numbers : Numbers
-usual_numbers = record { task = 1024; ring = 64; threads = 2; most = 2 ^ 40; slack = 0 }
+-- the sizes where the words give no option: 1,024 rows a task, a ring of 64 cells, two threads, all lines that a file may have, timestamps that don't fall,
+-- and an end of the input that closes nothing
+abbrev pub usual_sizes : Sizes
+usual_sizes = record { task = 1024; ring = 64; threads = 2; max_lines = 2 ^ 40; slack = 0; flush = false }
 
--- a run over these files whose words give no option: the end of the input closes nothing
+-- a run over these files whose words give no option
 abbrev pub plain_run : Text → Text → Option Text → Asked
-plain_run query left right = run_over query left right usual_numbers false
+plain_run query left right = run_over query left right usual_sizes
 
 -- `run` wants the query's file, a left file and maybe a right one
 abbrev pub run_of : List Text → Option Asked
@@ -246,7 +229,7 @@ check_of _ = None
 
 -- a run over generated rows whose words give no option
 abbrev pub plain_demo : ℕ → ℕ → Asked
-plain_demo seed rows = demo (record { seed = seed; rows = rows; task = 1024; ring = 64; threads = 2 })
+plain_demo seed rows = demo (record { seed = seed; rows = rows; sizes = usual_sizes })
 
 -- `demo` wants a seed and a number of rows, each a whole number in its range
 abbrev pub plain_with : Option ℕ → Option ℕ → Option Asked
@@ -259,7 +242,7 @@ demo_of _ = None
 
 -- a chain over these files whose words give no option
 abbrev pub plain_chain : Text → Text → Text → Option Text → Asked
-plain_chain first second left right = chain_over first second left right usual_numbers
+plain_chain first second left right = chain_over first second left right usual_sizes
 
 -- `chain` wants the files of two queries, a left file and maybe a right one
 abbrev pub chain_of : List Text → Option Asked

@@ -6,9 +6,9 @@ use Rattle.clap.specs.Simple.{App, Shape, new_shape, subcommand_of}
 use Rattle.clap.specs.Faults.{fault_of}
 use Rattle.saber_plan.specs.declared.sizes.Sizes.{Sizes}
 use Rattle.saber_plan.specs.Sizes.{SizesFit}
-use Rattle.saber_words.specs.Numbers.{Numeric, number_by, number_rule}
+use Rattle.saber_words.specs.Numbers.{Numeric, number_rule}
 use Rattle.saber_words.specs.Flags.{flag_by, flag_rule}
-use Rattle.saber_words.specs.Commands.{Numbers, numbers_with, sizes_with, required_rule, optional, task, ring, max_lines, slack, saber_shape, is_faultless, usual_numbers}
+use Rattle.saber_words.specs.Commands.{sizes_by, required_rule, optional, task, ring, max_lines, slack, saber_shape, is_faultless, usual_sizes}
 use Rattle.saber_words.specs.declared.commands.Many.{Many}
 
 -- runs of one to eight queries over the rows of one file, each by its name, all in these sizes: the threads are those of each query
@@ -21,7 +21,7 @@ abbrev pub asked_many : Many → AskedMany
 asked_many m = record {
   left = m.left.now;
   queries = map (λ query. query.now) m.queries.items;
-  sizes = record { task = m.task; ring = m.ring; threads = m.threads; max_lines = m.max_lines; slack = m.slack; flush = m.flush };
+  sizes = m.sizes;
 }
 
 -- 1 to 8 queries, and the sizes of a run with at most 8 threads for each query
@@ -62,16 +62,13 @@ queries_in ids rows = flat_map (λ id. option_to_list (first_of id rows)) ids
 abbrev pub queries_by : List Row → List Text
 queries_by = queries_in (codes "first" ∷ others)
 
-abbrev pub few_numbers_by : List Row → Option Numbers
-few_numbers_by rows = numbers_with (number_by task rows) (number_by ring rows) (number_by few_threads rows) (number_by max_lines rows) (number_by slack rows)
-
--- what `many` asks for, by its file, its queries, the numbers of its options, and whether `--final` was given
-abbrev pub many_with : Option Text → List Text → Option Numbers → Bool → Option AskedMany
-many_with (Some left) (query ∷ more) (Some n) flush = Some (record { left = left; queries = query ∷ more; sizes = sizes_with n flush })
-many_with _ _ _ flush = None
+-- what `many` asks for, by its file, its queries and its sizes
+abbrev pub many_with : Option Text → List Text → Option Sizes → Option AskedMany
+many_with (Some left) (query ∷ more) (Some sizes) = Some (record { left = left; queries = query ∷ more; sizes = sizes })
+many_with _ _ _ = None
 
 abbrev pub many_by : List Row → Option AskedMany
-many_by rows = many_with (first_of (codes "left") rows) (queries_by rows) (few_numbers_by rows) (flag_by (codes "final") rows)
+many_by rows = many_with (first_of (codes "left") rows) (queries_by rows) (sizes_by few_threads rows (flag_by (codes "final") rows))
 
 abbrev pub many_in : Text × List Row → Option AskedMany
 many_in s = if bytes_eq s.0 (codes "many") then many_by s.1 else None
@@ -82,9 +79,9 @@ many_of words = if is_faultless (fault_of many_app words) then option_and_then m
 
 -- ---- the same for file names alone
 
--- these queries over this file, where the words give no option: the end of the input closes nothing
+-- these queries over this file, where the words give no option
 abbrev pub plain_many : Text → List Text → AskedMany
-plain_many left queries = record { left = left; queries = queries; sizes = sizes_with usual_numbers false }
+plain_many left queries = record { left = left; queries = queries; sizes = usual_sizes }
 
 -- `many` wants a left file and the files of one to eight queries
 abbrev pub many_of_files : List Text → Option AskedMany

@@ -6,7 +6,7 @@ ghost use Rattle.saber_words.specs.Table.{HasShape};
 
 use crate::numbers::{max_lines, ring, sizes, slack, task, threads};
 use crate::table::{Argument, subcommand};
-use crate::{Chain, Command};
+use crate::{Chain, Command, RowNames};
 use clap::ArgMatches;
 use std::alloc::{AllocError, Global};
 
@@ -36,16 +36,11 @@ pub(crate) fn chain<'a>(values: &ArgMatches<'a>) -> Option<Command<'a>>
     let second = values.get_str("second")?;
     let left = values.get_str("left")?;
     let right = values.get_str("right");
-    let sizes = sizes(values)?;
+    let sizes = sizes(values, threads(), false)?;
     Some(Command::Chain(Chain {
         first,
         second,
-        left,
-        right,
-        task: sizes.task,
-        ring: sizes.ring,
-        threads: sizes.threads,
-        max_lines: sizes.max_lines,
-        slack: sizes.slack,
+        rows: RowNames { left, right },
+        sizes,
     }))
 }

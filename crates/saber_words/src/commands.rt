@@ -1,28 +1,26 @@
 //! What the words of the command line may ask for.
+use saber_plan::Sizes;
 use std::alloc::AllocError;
+
+/// The names of the row files of a query.
+#[derive(Clone, Copy)]
+pub struct RowNames<'a> {
+    /// The rows of the first stream of FROM.
+    pub left: &'a str,
+    /// The rows of the second stream, where one was named.
+    pub right: Option<&'a str>,
+}
 
 /// To answer a query over its files. Each text is the name of a file.
 #[derive(Clone, Copy)]
 pub struct Run<'a> {
     /// The text of the query.
     pub query: &'a str,
-    /// The rows of the first stream of FROM.
-    pub left: &'a str,
-    /// The rows of the second stream, where one was named.
-    pub right: Option<&'a str>,
-    /// How many rows a task has, 1 to 65,536. Where the words don't say, 1,024.
-    pub task: u32,
-    /// How many cells the ring has at most, 1 to 1,024. Where the words don't say, 64.
-    pub ring: u32,
-    /// How many threads work beside the caller's, 0 to 64. Where the words don't say, 2.
-    pub threads: u32,
-    /// How many lines a file may have, 1 to `2^40`. Where the words don't say, `2^40`.
-    pub max_lines: u64,
-    /// By how much a timestamp of a file may be below one before it, 0 to `2^40`. Where the words
-    /// don't say, 0.
-    pub slack: u64,
-    /// Whether the end of the input closes the windows that are begun.
-    pub flush: bool,
+    /// The rows of the streams of FROM.
+    pub rows: RowNames<'a>,
+    /// Where the words don't say: tasks of 1,024 rows, a ring of 64 cells, 2 threads, `2^40` lines a
+    /// file, timestamps that don't fall, and an end of the input that closes no window.
+    pub sizes: Sizes,
 }
 
 /// To check a query, without its files. The text is the name of a file.
@@ -39,12 +37,9 @@ pub struct Demo {
     pub seed: u32,
     /// How many rows there are, 0 to 1,048,576.
     pub rows: u32,
-    /// How many rows a task has, as of a run.
-    pub task: u32,
-    /// How many cells the ring has at most, as of a run.
-    pub ring: u32,
-    /// How many threads work beside the caller's, as of a run.
-    pub threads: u32,
+    /// Tasks, ring and threads as of a run. The file may have `2^40` lines, whose timestamps don't
+    /// fall, and its end closes no window.
+    pub sizes: Sizes,
 }
 
 /// To answer a query over its files, and a second one whose rows are the lines of the first one's
@@ -55,20 +50,10 @@ pub struct Chain<'a> {
     pub first: &'a str,
     /// The text of the second one.
     pub second: &'a str,
-    /// The rows of the first stream of the first query's FROM.
-    pub left: &'a str,
-    /// The rows of its second stream, where one was named.
-    pub right: Option<&'a str>,
-    /// How many rows a task of each query has, as of a run.
-    pub task: u32,
-    /// How many cells the ring of each has at most, as of a run.
-    pub ring: u32,
-    /// How many threads work for each, as of a run.
-    pub threads: u32,
-    /// How many lines a file may have, as of a run.
-    pub max_lines: u64,
-    /// By how much a timestamp of a file may be below one before it, as of a run.
-    pub slack: u64,
+    /// The rows of the streams of the first query's FROM.
+    pub rows: RowNames<'a>,
+    /// Of each of both queries, as of a run; the end of the input closes no window.
+    pub sizes: Sizes,
 }
 
 /// To answer several queries of one stream over the rows of one file, each into a file of its own.
@@ -79,19 +64,8 @@ pub struct Many<'a> {
     pub left: &'a str,
     /// The texts of the queries, of which there are 1 to 8.
     pub queries: Vec<&'a str>,
-    /// How many rows a task has, as of a run.
-    pub task: u32,
-    /// How many cells the ring has at most, as of a run.
-    pub ring: u32,
-    /// How many threads work for each query beside the caller's, 0 to 8. Where the words don't
-    /// say, 2.
-    pub threads: u32,
-    /// How many lines the file may have, as of a run.
-    pub max_lines: u64,
-    /// By how much a timestamp of the file may be below one before it, as of a run.
-    pub slack: u64,
-    /// Whether the end of the input closes the windows that are begun.
-    pub flush: bool,
+    /// As of a run, but each query has 0 to 8 threads beside the caller's.
+    pub sizes: Sizes,
 }
 
 /// A command of the program.

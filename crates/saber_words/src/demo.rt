@@ -3,13 +3,14 @@ ghost use Rattle.std.specs.Prelude.{◌≡◌, IfOk, option_map};
 ghost use Rattle.clap.specs.Words.{found_of, rows_of};
 ghost use Rattle.saber_words.specs.Numbers.{numeric_of};
 ghost use Rattle.saber_words.specs.Demo.{rows, seed};
-ghost use Rattle.saber_words.specs.Commands.{asked_command, demo_by, demo_shape};
+ghost use Rattle.saber_words.specs.Commands.{asked_command, demo_by, demo_shape, generated_by};
 ghost use Rattle.saber_words.specs.Table.{HasShape};
 
 use crate::numbers::{NumberOption, number, ring, task, threads};
 use crate::table::{Argument, subcommand};
 use crate::{Command, Demo};
 use clap::ArgMatches;
+use saber_plan::Sizes;
 use std::alloc::{AllocError, Global};
 
 // What the generator begins with.
@@ -50,20 +51,33 @@ pub(crate) fn demo_app<'a>(alloc: Global) -> Result<clap::Command<'a>, AllocErro
     subcommand(alloc, "demo", arguments.as_slice())
 }
 
+// The sizes that were asked for. There are fewer rows than a file may have lines.
+fn generated_sizes(values: &ArgMatches<'_>) -> Option<Sizes>
+    ensures { result ≡ generated_by (rows_of (found_of values.now)) }
+{
+    let size = number(values, task())?;
+    let cells = number(values, ring())?;
+    let count = number(values, threads())?;
+    Some(Sizes {
+        task: size as u32,
+        ring: cells as u32,
+        threads: count as u32,
+        max_lines: 1_099_511_627_776,
+        slack: 0,
+        flush: false,
+    })
+}
+
 /// What its words ask for.
 pub(crate) fn demo<'a>(values: &ArgMatches<'a>) -> Option<Command<'a>>
     ensures { option_map asked_command result ≡ demo_by (rows_of (found_of values.now)) }
 {
     let first = number(values, seed())?;
     let second = number(values, rows())?;
-    let size = number(values, task())?;
-    let cells = number(values, ring())?;
-    let count = number(values, threads())?;
+    let sizes = generated_sizes(values)?;
     Some(Command::Demo(Demo {
         seed: first as u32,
         rows: second as u32,
-        task: size as u32,
-        ring: cells as u32,
-        threads: count as u32,
+        sizes,
     }))
 }

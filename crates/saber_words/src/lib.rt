@@ -27,7 +27,7 @@ mod numbers;
 mod reading;
 mod table;
 
-pub use commands::{Chain, Check, Command, Demo, Many, Run, WordsFault};
+pub use commands::{Chain, Check, Command, Demo, Many, RowNames, Run, WordsFault};
 pub use laws::{words_of_file_names, words_of_many};
 pub use many::{out_name, read_many};
 pub use reading::read_words;

@@ -2,17 +2,17 @@
 ghost use Rattle.std.specs.Prelude.{◌≡◌, ◌++◌, IfOk, Some, None, OnOk, map, option_map, option_and_then, option_to_list, string_bytes};
 ghost use Rattle.clap.specs.Walk.{first_of};
 ghost use Rattle.clap.specs.Words.{app_of, found_of, rows_of, subcommand_rows_of};
-ghost use Rattle.saber_words.specs.Commands.{numbers_of};
 ghost use Rattle.saber_words.specs.Numbers.{numeric_of};
 ghost use Rattle.saber_words.specs.Table.{HasShape};
-ghost use Rattle.saber_words.specs.Many.{asked_many, few_numbers_by, few_threads, many_app, many_by, many_in, many_of, many_shape, queries_in, many_with, out_name, HasManySizes};
+ghost use Rattle.saber_words.specs.Many.{asked_many, few_threads, many_app, many_by, many_in, many_of, many_shape, queries_in, many_with, out_name, HasManySizes};
 
 use crate::flags::is_given;
-use crate::numbers::{NumberOption, RunSizes, max_lines, number, ring, slack, task};
+use crate::numbers::{NumberOption, max_lines, ring, sizes, slack, task};
 use crate::reading::fault;
 use crate::table::{Argument, bare_saber, subcommand, with_subcommand};
 use crate::{Many, WordsFault};
 use clap::ArgMatches;
+use saber_plan::Sizes;
 use std::alloc::{AllocError, Global};
 
 /// What `many LEFT QUERY..` asks for, by the words of the command line, of which the first is the
@@ -107,17 +107,13 @@ fn many<'a>(alloc: Global, values: &ArgMatches<'a>) -> Result<Option<Many<'a>>, 
     let mut queries = Vec::new(alloc);
     take_queries(&mut queries, values, names.as_slice())?;
     let flush = is_given(values, "final");
-    Ok(with(values.get_str("left"), queries, few_sizes(values), flush))
+    let sizes = sizes(values, few_threads(), flush);
+    Ok(with(values.get_str("left"), queries, sizes))
 }
 
 // These, where all that is wanted was found.
-fn with<'a>(
-    left: Option<&'a str>,
-    queries: Vec<&'a str>,
-    sizes: Option<RunSizes>,
-    flush: bool,
-) -> Option<Many<'a>>
-    ensures { option_map asked_many result ≡ many_with (option_map (λ name. name.now) left.entry) (map (λ query. query.now) queries.entry.items) (option_map numbers_of sizes) flush }
+fn with<'a>(left: Option<&'a str>, queries: Vec<&'a str>, sizes: Option<Sizes>) -> Option<Many<'a>>
+    ensures { option_map asked_many result ≡ many_with (option_map (λ name. name.now) left.entry) (map (λ query. query.now) queries.entry.items) sizes }
 {
     let left = left?;
     let sizes = sizes?;
@@ -127,12 +123,7 @@ fn with<'a>(
     Some(Many {
         left,
         queries,
-        task: sizes.task,
-        ring: sizes.ring,
-        threads: sizes.threads,
-        max_lines: sizes.max_lines,
-        slack: sizes.slack,
-        flush,
+        sizes,
     })
 }
 
@@ -165,22 +156,4 @@ fn take_queries<'a>(
     };
     take_query(queries, values, *name)?;
     take_queries(queries, values, rest)
-}
-
-// The numbers of the options that were asked for.
-fn few_sizes(values: &ArgMatches<'_>) -> Option<RunSizes>
-    ensures { option_map numbers_of result ≡ few_numbers_by (rows_of (found_of values.now)) }
-{
-    let rows = number(values, task())?;
-    let cells = number(values, ring())?;
-    let count = number(values, few_threads())?;
-    let lines = number(values, max_lines())?;
-    let slack = number(values, slack())?;
-    Some(RunSizes {
-        task: rows as u32,
-        ring: cells as u32,
-        threads: count as u32,
-        max_lines: lines,
-        slack,
-    })
 }

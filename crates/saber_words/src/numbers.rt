@@ -1,11 +1,12 @@
 //! The options that take a whole number.
-ghost use Rattle.std.specs.Prelude.{◌≡◌, ◌≤◌, false, IfSome, option_map};
+ghost use Rattle.std.specs.Prelude.{◌≡◌, ◌≤◌, false, IfSome};
 ghost use Rattle.clap.specs.Words.{found_of, rows_of, rule_of};
 ghost use Rattle.saber_words.specs.Numbers.{number_by, number_rule, numeric_of, within};
-ghost use Rattle.saber_words.specs.Commands.{max_lines, numbers_by, numbers_of, ring, slack, task, threads};
+ghost use Rattle.saber_words.specs.Commands.{max_lines, ring, sizes_by, slack, task, threads};
 
 use clap::builder::ValueParser;
 use clap::{Arg, ArgMatches};
+use saber_plan::Sizes;
 use std::alloc::Global;
 
 /// An option of one value, a whole number: `--name N`.
@@ -92,31 +93,24 @@ pub(crate) fn number_arg<'a>(alloc: Global, option: NumberOption) -> Arg<'a>
         .default_value(option.usual)
 }
 
-/// The numbers of a run's options.
-#[derive(Clone, Copy)]
-pub(crate) struct RunSizes {
-    pub(crate) task: u32,
-    pub(crate) ring: u32,
-    pub(crate) threads: u32,
-    pub(crate) max_lines: u64,
-    pub(crate) slack: u64,
-}
-
-/// Those that were asked for.
-pub(crate) fn sizes(values: &ArgMatches<'_>) -> Option<RunSizes>
-    ensures { option_map numbers_of result ≡ numbers_by (rows_of (found_of values.now)) }
+/// The sizes that were asked for, with this option for the threads, where the end of the input closes
+/// the windows that are begun or doesn't.
+pub(crate) fn sizes(values: &ArgMatches<'_>, crew: NumberOption, flush: bool) -> Option<Sizes>
+    requires { crew.most ≤ 64 }
+    ensures { result ≡ sizes_by (numeric_of crew) (rows_of (found_of values.now)) flush }
 {
     let rows = number(values, task())?;
     let cells = number(values, ring())?;
-    let count = number(values, threads())?;
+    let count = number(values, crew)?;
     let lines = number(values, max_lines())?;
     let slack = number(values, slack())?;
-    Some(RunSizes {
+    Some(Sizes {
         task: rows as u32,
         ring: cells as u32,
         threads: count as u32,
         max_lines: lines,
         slack,
+        flush,
     })
 }
 

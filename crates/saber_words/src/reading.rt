@@ -11,7 +11,7 @@ use crate::demo::{demo, demo_app};
 use crate::flags::is_given;
 use crate::numbers::{max_lines, ring, sizes, slack, task, threads};
 use crate::table::{Argument, bare_saber, subcommand, with_subcommand};
-use crate::{Check, Command, Run, WordsFault};
+use crate::{Check, Command, RowNames, Run, WordsFault};
 use clap::ArgMatches;
 use clap::error::ErrorKind;
 use std::alloc::{AllocError, Global};
@@ -97,18 +97,12 @@ fn run<'a>(values: &ArgMatches<'a>) -> Option<Command<'a>>
     let query = values.get_str("query")?;
     let left = values.get_str("left")?;
     let right = values.get_str("right");
-    let sizes = sizes(values)?;
     let flush = is_given(values, "final");
+    let sizes = sizes(values, threads(), flush)?;
     Some(Command::Run(Run {
         query,
-        left,
-        right,
-        task: sizes.task,
-        ring: sizes.ring,
-        threads: sizes.threads,
-        max_lines: sizes.max_lines,
-        slack: sizes.slack,
-        flush,
+        rows: RowNames { left, right },
+        sizes,
     }))
 }
 

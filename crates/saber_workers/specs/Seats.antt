@@ -1,5 +1,5 @@
 -- What is asked of a seat, and what a turn of work does to it.
-use Rattle.std.specs.Prelude.{◌≡◌, ◌≢◌, ◌<◌, ◌≤◌, ℕ, ◌+◌, ◌*◌, ◌%◌, ◌⊎◌, Bool, true, false, if◌then◌else◌, nat_lt, Option, Some, None}
+use Rattle.std.specs.Prelude.{◌≡◌, ◌≢◌, ◌<◌, ◌≤◌, ℕ, ◌+◌, ◌*◌, ◌%◌, ◌⊎◌, Bool, true, false, if◌then◌else◌, Option, Some, None}
 use Rattle.saber_ring.specs.declared.view.View.{View}
 use Rattle.saber_ring.specs.declared.view.HeldTurn.{HeldTurn}
 use Rattle.saber_ring.specs.declared.view.TurnState.{TurnState}
@@ -8,6 +8,7 @@ use Rattle.saber_ring.specs.declared.ring.Ring.{Ring}
 use Rattle.saber_ring.specs.Words.{view, table, table_of}
 use Rattle.saber_ring.specs.Shows.{turn_word, free}
 use Rattle.saber_ring.specs.Calls.{NotLast, HoldsTurn, StageAt}
+use Rattle.saber_ring.specs.Readings.{was_claimed}
 
 -- no turn, and no block out for reading
 abbrev pub IsFree : {T : Type 0} → View T → Type 0
@@ -51,7 +52,7 @@ SameWork v w = (w.job ≡ v.job) × (w.block ≡ v.block) × (w.stopped ≡ v.st
 
 -- the next task to ask for, where this word was seen in place of the ready one
 abbrev pub next_cursor : ℕ → ℕ → ℕ
-next_cursor t word = if nat_lt (8 * t + 2) word then t + 1 else t
+next_cursor t word = if was_claimed t word then t + 1 else t
 
 module _ {T : Type 0} (size : ℕ) (v w : View T) where
   -- the claim of task t was refused by the seat's next step, which is the last that was refused

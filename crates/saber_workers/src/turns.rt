@@ -14,7 +14,7 @@ use crate::hand::{Hand, InHand};
 use crate::labor::Labor;
 use saber_core::Work;
 use saber_io::Gate;
-use saber_ring::{Claim, Seat};
+use saber_ring::{Claim, Seat, was_claimed};
 use std::mem;
 use std::sync::Wait;
 
@@ -59,7 +59,7 @@ impl<W: Work, L: Labor<W>, G: Gate, R: Wait> Bench<'_, W, L, G, R> {
                 InHand::Claimed(job)
             }
             Claim::Not { word } => {
-                if 8 * *cursor + 2 < word {
+                if was_claimed(*cursor, word) {
                     *cursor += 1;
                 }
                 InHand::Empty

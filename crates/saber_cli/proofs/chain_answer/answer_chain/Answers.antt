@@ -12,7 +12,7 @@ pub returns-clause-runs : goal.returns-clause-runs
 returns-clause-runs g c =
     let e = c.chain-first_end.result in
     let n = c.chain-first_end.ensures in
-    runs_so (tree_of c.args.first.now) (tree_of c.args.second.now) c.args.sizes.now (LeavesWhole (tree_of c.args.first.now) c.args.sizes.now (each_input g.S.Source.left c.args.inputs) (each_input g.S.Source.left e.inputs)) _ _ _
+    runs_so (tree_of c.args.plans.now.first) (tree_of c.args.plans.now.second) c.args.sizes.now (LeavesWhole (tree_of c.args.plans.now.first) c.args.sizes.now (each_input g.S.Source.left c.args.inputs) (each_input g.S.Source.left e.inputs)) _ _ _
     c.chained_as.result e c.stopped_of-stopped.result c.chained_as.ensures c.stopped_of-stopped.ensures n.stopped n.gives n.whole n.never n.all n.cut n.narrow
 
 pub returns-clause-kinds : goal.returns-clause-kinds

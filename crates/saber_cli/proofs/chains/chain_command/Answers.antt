@@ -40,16 +40,12 @@ returns-clause-chained g c =
     let told = g.F.Files.told in
     let w = seen_of g.K.Sink.written g.K.Sink.writes c.args.sink in
     let v = seen_of g.K.Sink.written g.K.Sink.writes c.chain_rows.result.sink in
-    let rows : asked_run c.first_run-rows.result ≡ first_run a = c.first_run-rows.ensures in
-    let sizes : c.chain_sizes-sizes.result ≡ a.sizes = c.chain_sizes-sizes.ensures.sizes in
     let names = row_names (first_run a) in
     let old = told c.args.files.now in
     let mid = told c.chain_plans.new.files in
     let new = told c.chain_rows.new.files in
-    let over_rows = subst (λ (r : AskedRun). ChainedTold p q c.chain_sizes-sizes.result (row_names r) mid new w v o tasks) rows c.chain_rows.ensures.runs in
-    let over_sizes = subst (λ s. ChainedTold p q s names mid new w v o tasks) sizes over_rows in
     let leaves : RunEnd → ℕ → Type 0 = CutTakes p a.sizes names mid new in
-    let runs = read_contents (λ files. ChainedIn p q a.sizes leaves (contents_of files names) w v o tasks) a.first a.second old mid c.in-Ok.ensures.read over_sizes in
+    let runs = read_contents (λ files. ChainedIn p q a.sizes leaves (contents_of files names) w v o tasks) a.first a.second old mid c.in-Ok.ensures.read c.chain_rows.ensures.runs in
     let told_on =
     some_both (λ (t : FilesView). (e : RunEnd) (n : ℕ) → leaves e n → CutTakesChain a t new p e n) (λ t. ChainedIn p q a.sizes leaves (contents_of t.contents names) w v o tasks)
     (λ t. ChainedIn p q a.sizes (CutTakesChain a t new p) (contents_of t.contents names) w v o tasks) old
@@ -67,9 +63,8 @@ returns-clause-leaves g c =
     let q : Tree = tree_of c.in-Ok.plans.second in
     let o = c.chain_rows.result.outcome in
     let told = g.F.Files.told in
-    let rows : asked_run c.first_run-rows.result ≡ first_run a = c.first_run-rows.ensures in
     let due = some_map (λ (t : FilesView). HasPlans t.contents a p q) (λ t. AsksChainRows t.contents a) (told c.args.files.now) (λ t u. record { first = p; second = q; plans = u; chains = c.in-Ok.ensures.chains; like = c.in-Ok.ensures.like }) c.in-Ok.ensures.plans in
-    chain_rows_leave a o _ _ _ due c.in-Ok.ensures.read (subst (λ (r : AskedRun). UsesChainRows (row_names r) o (told c.chain_plans.new.files) (told c.chain_rows.new.files)) rows c.chain_rows.ensures.uses)
+    chain_rows_leave a o _ _ _ due c.in-Ok.ensures.read c.chain_rows.ensures.uses
 
 pub returns-clause-cause : goal.returns-clause-cause
 returns-clause-cause g c k = keeps_rose _ _ _ c.in-Ok.ensures.count (c.chain_rows.ensures.cause k)

@@ -17,7 +17,7 @@ use Rattle.saber_cli.specs.Taken.{TakesRows, TakesWhole}
 use Rattle.saber_cli.proofs.AnsweredLemmas.{for_any}
 use Rattle.saber_cli.proofs.LeavesLemmas.{query_leaves, refused_leaves, rows_leaves}
 use Rattle.saber_cli.proofs.TakenLemmas.{takes_whole}
-use Rattle.saber_cli.proofs.RunLemmas.{gives_no_text, gives_text_fault, gives_unlike, gives_answer, run_of, asks_rows, sized, some_map, some_both, used_contents, text_fault_after}
+use Rattle.saber_cli.proofs.RunLemmas.{gives_no_text, gives_text_fault, gives_unlike, gives_answer, run_of, asks_rows, some_map, some_both, used_contents, text_fault_after}
 use Rattle.saber_cli.proofs.PlanLemmas.{query_alone, run_alone, text_alone}
 use Rattle.saber_plan.specs.Tasks.{run_input}
 use Rattle.saber_plan.specs.Files.{input_of}
@@ -65,7 +65,6 @@ returns-clause-written g c =
     let o = c.run_rows.result.outcome in
     let tasks = c.run_rows.result.tasks in
     let w = c.run_rows.ensures.written in
-    let z = c.sizes_of-sizes.ensures in
     let ok : HasPlan c.in-Ok.text.items q = subst (λ t. HasPlan t q) c.deref.ensures.value c.in-Ok-planned.ensures.plan in
     let like : IsLike r q = sym (ap length c.streams.ensures.is) ∙ c.if-streams-given.false ∙ c.file_count-given.ensures in (
       w.0,
@@ -73,7 +72,7 @@ returns-clause-written g c =
       some_both (λ (t : FilesView). BeginsFile t.contents r.query c.in-Ok.text.items) (λ t. AnsweredIn q r.sizes.task r.sizes.ring (limits_of r.sizes) r.sizes.flush (contents_of t.contents (row_names r)) o tasks w.0) (λ t. Gives t.contents (run r) o tasks w.0) _
           (λ t b a. gives_answer t.contents r q o tasks w.0 (run_of t.contents r c.in-Ok.text.items q b ok) like c.run_rows.ensures.kinds a) c.in-Ok.ensures.front
           (used_contents (λ f. AnsweredIn q r.sizes.task r.sizes.ring (limits_of r.sizes) r.sizes.flush (contents_of f (row_names r)) o tasks w.0) _ _ _ c.in-Ok.ensures.uses
-          (sized (λ n ring m b. IfSome (g.F.Files.told c.query_text.new.files) (λ (t : FilesView). AnsweredIn q n ring m b (contents_of t.contents (row_names r)) o tasks w.0)) _ _ r.sizes.task r.sizes.ring _ (limits_of r.sizes) _ r.sizes.flush z.task z.ring z.limits z.flush w.2)),
+          w.2),
     )
 
 pub returns-clause-leaves : goal.returns-clause-leaves
@@ -93,10 +92,9 @@ returns-clause-taken g c asked_for e side k =
     let same : r ≡ asked_for = cc in
     let q : Tree = tree_of c.in-Ok-planned.plan in
     let tasks = c.run_rows.result.tasks in
-    let z = c.sizes_of-sizes.ensures in
     let ok : HasPlan c.in-Ok.text.items q = subst (λ t. HasPlan t q) c.deref.ensures.value c.in-Ok-planned.ensures.plan in
     let has = some_map (λ (t : FilesView). BeginsFile t.contents r.query c.in-Ok.text.items) (λ t. HasRun t.contents r q) (told c.args.files.now) (λ t b. run_of t.contents r c.in-Ok.text.items q b ok) c.in-Ok.ensures.front in
-    let rows = sized (λ n ring m b. TakesRows q n m tasks (row_names r) (told c.query_text.new.files) (told c.run_rows.new.files)) _ _ r.sizes.task r.sizes.ring _ (limits_of r.sizes) _ r.sizes.flush z.task z.ring z.limits z.flush (c.run_rows.ensures.taken side k) in
+    let rows : TakesRows q r.sizes.task (limits_of r.sizes) tasks (row_names r) (told c.query_text.new.files) (told c.run_rows.new.files) = c.run_rows.ensures.taken side k in
     subst (λ a. IfSome (told c.args.files.now) (λ (t : FilesView). (u : FilesView) × (told c.run_rows.new.files ≡ Some u) × TakesWhole a tasks t u)) same
     (takes_whole r q tasks (told c.args.files.now) (told c.query_text.new.files) (told c.run_rows.new.files) has c.in-Ok.ensures.uses rows)
 
@@ -127,12 +125,8 @@ returns-clause-writes g c =
     let tasks = c.run_rows.result.tasks in
     let had = g.K.Sink.writes c.args.sink in
     let now = g.K.Sink.writes c.run_rows.result.sink in
-    let z = c.sizes_of-sizes.ensures in
     let ok : HasPlan c.in-Ok.text.items q = subst (λ t. HasPlan t q) c.deref.ensures.value c.in-Ok-planned.ensures.plan in
-    let rows =
-    sized (λ n ring m b. IfSome (told c.query_text.new.files) (λ (t : FilesView). IfSome (contents_of t.contents (row_names r)) (λ all. now ≡ raised_by had (writes_of q n (run_input q b (input_of q m all)) (end_of o) tasks))))
-    _ _ r.sizes.task r.sizes.ring _ (limits_of r.sizes) _ r.sizes.flush z.task z.ring z.limits z.flush c.run_rows.ensures.writes in
-    let over = used_contents (λ f. IfSome (contents_of f (row_names r)) (λ all. now ≡ raised_by had (run_writes r q all o tasks))) _ _ _ c.in-Ok.ensures.uses rows in
+    let over = used_contents (λ f. IfSome (contents_of f (row_names r)) (λ all. now ≡ raised_by had (run_writes r q all o tasks))) _ _ _ c.in-Ok.ensures.uses c.run_rows.ensures.writes in
     some_both (λ (t : FilesView). BeginsFile t.contents r.query c.in-Ok.text.items) (λ t. IfSome (contents_of t.contents (row_names r)) (λ all. now ≡ raised_by had (run_writes r q all o tasks)))
     (λ t. (p : Tree) → HasRun t.contents r p → IfSome (contents_of t.contents (row_names r)) (λ all. now ≡ raised_by had (run_writes r p all o tasks))) (told c.args.files.now)
     (λ t b h. same_run t.contents r q o tasks had now (contents_of t.contents (row_names r)) (run_of t.contents r c.in-Ok.text.items q b ok) h) c.in-Ok.ensures.front over

@@ -1,13 +1,12 @@
-use Rattle.std.proofs.Common.{◌∙◌, sym, ap}
-use Rattle.saber_notes.specs.Notes.{status_of}
-use Rattle.saber_cli.proofs.NoteLemmas.{done_alone}
+use Rattle.std.proofs.Common.{sym, subst}
+use Rattle.saber_notes.specs.Notes.{note_of}
+use Rattle.saber_notes.specs.Told.{TellsNotes}
 use Rattle.saber_cli.proofs.top.saber.Goals as goal
 
 pub returns : goal.returns
 returns g c =
     let ran = c.run_words-outcome.ensures in
     let o = c.run_words-outcome.result.outcome in
-    let note = c.write_note-noted.ensures in
     let status = c.status.ensures in
     record {
       status = status;
@@ -25,15 +24,5 @@ returns g c =
       sink_good = ran.write_good;
       leaves = ran.leaves;
       taken = ran.taken;
-      notes = record {
-        nothing = λ z. note.nothing (done_alone o (sym status ∙ z));
-        something = λ n. note.something (λ e. n (status ∙ ap status_of e));
-        whole = note.whole;
-        failed = note.failed;
-        memory = note.memory;
-        note = note.cause;
-        note_good = note.good;
-        one = λ n. note.one (λ e. n (status ∙ ap status_of e));
-        none = note.none;
-      };
+      notes = subst (λ s. TellsNotes g.N.Sink.written g.N.Sink.faults g.N.Sink.writes c.args.notes.now c.write_note-noted.new.notes s c.write_note-noted.result (note_of o)) (sym status) c.write_note-noted.ensures;
     }

@@ -28,8 +28,8 @@ run-ran-requires-clause-begins g c spans live =
     let (columns, may) = c.requires.share in
     let b = c.requires.begins in
     begins_all g.O.Operator.plan g.O.Operator.contents g.O.Operator.has_taken g.K.Sink.written g.K.Sink.faults g.K.Sink.writes tree_in sink_in (without_end s) (still_fit s c.requires.sizes) columns left faults
-    c.args.dealt.cutter c.args.dealt.end c.requires.goes_on c.requires.goes (λ q one. suits q (limits_of s) g.S.Source.left c.args.inputs.now (c.requires.inputs ∙ sym one))
-    c.args.operators.now.list.items c.args.jobs.items c.args.dealt.keepers.items c.begin_all-members.result.items c.requires.some c.requires.plans may c.requires.cuts c.requires.keepers c.begin_all-members.ensures.stand
+    c.args.begun.dealt.cutter c.args.begun.dealt.end c.requires.goes_on c.requires.goes (λ q one. suits q (limits_of s) g.S.Source.left c.args.inputs.now (c.requires.inputs ∙ sym one))
+    c.args.operators.now.list.items c.args.jobs.items c.args.begun.dealt.keepers.items c.begin_all-members.result.items c.requires.some c.requires.plans may c.requires.cuts c.requires.keepers c.begin_all-members.ensures.stand
     c.sizes_for-threads.result.task g.J.Begins.sizes g.J.Begins.lefts g.J.Begins.faults c.sizes_for-threads.ensures.task b.0 b.1 b.2
 
 pub take_last-members-requires : goal.take_last-members-requires

@@ -34,7 +34,7 @@ take_slices-requires-clause-goes_on g c =
       0,
       length b.rows.now,
       goes_behind q e b.before b.rows.now b.ended c.requires.meets (has_window c.args.self.now c.self.view_is c.self.invariant.0 c.self.invariant.1).fits c.requires.fits
-          low c.args.high store.next store.slices.entries c.args.slices.items order c.requires.high c.in-Ok-open_behind.ensures.next c.in-Ok-open_behind.ensures.slices c.requires.slices,
+          low c.args.high store.next store.slices.entries c.args.slices order c.requires.high c.in-Ok-open_behind.ensures.next c.in-Ok-open_behind.ensures.slices c.requires.slices,
     )
 
 pub returns-in-Ok-take_slices-clause-gives : goal.returns-in-Ok-take_slices-clause-gives
@@ -42,7 +42,7 @@ returns-in-Ok-take_slices-clause-gives g c old given end same =
     let q = tree_of c.args.self.now in
     let e = c.args.earlier.now in
     let b = c.args.batch.now in
-    let slices = c.args.slices.items in
+    let slices = c.args.slices in
     let low = c.max-low.result in
     let k = c.closing_end-count.result in
     let order : low ≤ c.args.high = let more = c.if-high-low.false in omega (arith, more) in
@@ -51,10 +51,10 @@ returns-in-Ok-take_slices-clause-gives g c old given end same =
     let goes = goes_behind q e b.before b.rows.now b.ended c.requires.meets (has_window c.args.self.now c.self.view_is c.self.invariant.0 c.self.invariant.1).fits c.requires.fits
     low c.args.high store.next store.slices.entries slices order c.requires.high c.in-Ok-open_behind.ensures.next c.in-Ok-open_behind.ensures.slices c.requires.slices in
     is_complete q e b.before b.rows.now b.ended c.requires.meets old given end (has_window c.args.self.now c.self.view_is c.self.invariant.0 c.self.invariant.1).group (has_window c.args.self.now c.self.view_is c.self.invariant.0 c.self.invariant.1).fits same
-    low c.args.high (record { low = low; text = c.take_slices.new.out; «open» = c.take_slices.new.store }) slices k c.in-Ok.closing.items store.next c.new-text.result.items c.new-text.ensures.items order c.requires.high least refl c.in-Ok-open_behind.ensures.next c.requires.slices
-    (c.in-Ok.ensures ∙ ap (take k) c.deref-2.ensures.value)
-    (subst (λ l. AllByRecursion (λ (r : Slice). r.first ≤ low) (take k l)) c.deref.ensures.value c.closing_end-count.ensures.firsts)
-    (subst (λ l. (r : Slice) → Some r ≡ slice_get l k → low ≤ r.first) c.deref.ensures.value c.closing_end-count.ensures.behind)
+    low c.args.high (record { low = low; text = c.take_slices.new.out; «open» = c.take_slices.new.store }) slices k c.in-Ok.closing store.next c.new-text.result.items c.new-text.ensures.items order c.requires.high least refl c.in-Ok-open_behind.ensures.next c.requires.slices
+    c.in-Ok.ensures
+    c.closing_end-count.ensures.firsts
+    c.closing_end-count.ensures.behind
     c.take_slices.new.output (c.in-Ok-take_slices.ensures.went_on e.before (e.rows ++ b.rows.now) (length e.rows) 0 (length b.rows.now) goes tt)
 
 pub returns-in-Ok-take_slices-clause-steps : goal.returns-in-Ok-take_slices-clause-steps

@@ -10,9 +10,9 @@ pub returns-clause-steps : goal.returns-clause-steps
 returns-clause-steps g c =
     let e = length c.args.earlier.now.rows in
     let b = c.args.batch.now in
-    let slices = length c.in_ok-slices.slices.items in
+    let slices = length c.in_ok-slices.slices in
     let long = length b.rows.now in
-    let few = slices_few (tree_of c.args.self.now) b.before b.rows.now 0 c.in_ok-slices.slices.items long c.in_ok-slices.ensures.slices in
+    let few = slices_few (tree_of c.args.self.now) b.before b.rows.now 0 c.in_ok-slices.slices long c.in_ok-slices.ensures.slices in
     let before = c.args.steps.now in
     elim c.if-looks_back.branch [
       | then-looks_back+in_ok-completed w ↦

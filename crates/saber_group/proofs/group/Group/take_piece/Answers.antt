@@ -12,7 +12,7 @@ pub take_slices-requires-clause-goes_on : goal.take_slices-requires-clause-goes_
 take_slices-requires-clause-goes_on g c =
     let q = tree_of c.args.self.now in
     let s = c.args.store.now in
-    let slices = c.args.piece.slices.items in
+    let slices = c.args.piece.slices in
     let (old, rows, ended, h) = c.requires.comes in (
       no_rows,
       old ++ rows,
@@ -28,7 +28,7 @@ take_complete-requires-clause-comes g c =
     let q = tree_of c.args.self.now in
     let s = c.args.store.now in
     let (old, rows, ended, h) = c.requires.comes in
-    (c.args.closed, (old, rows, ended, subst (λ (o : Option Complete). Comes q old rows ended s.next s.slices.entries c.args.piece.slices.items o c.args.closed) c.in-Some.is h))
+    (c.args.closed, (old, rows, ended, subst (λ (o : Option Complete). Comes q old rows ended s.next s.slices.entries c.args.piece.slices o c.args.closed) c.in-Some.is h))
 
 pub take_complete-requires-clause-each : goal.take_complete-requires-clause-each
 take_complete-requires-clause-each g c = c.requires.answering c.in-Some.complete c.in-Some.is
@@ -37,7 +37,7 @@ pub returns-in-None-clause-come : goal.returns-in-None-clause-come
 returns-in-None-clause-come h c =
     let q = tree_of c.args.self.now in
     let s = c.args.store.now in
-    let slices = c.args.piece.slices.items in
+    let slices = c.args.piece.slices in
     let new = c.take_slices.new in
     on_ok_weaker c.take_slices.result (λ went old rows ended g stands.
     let all = go_all q (has_window c.args.self.now c.self.view_is c.self.invariant.0 c.self.invariant.1).fits old rows ended s.next s.slices.entries slices c.args.closed (subst (λ (o : Option Complete). Comes q old rows ended s.next s.slices.entries slices o c.args.closed) c.in-None.is g) in
@@ -47,16 +47,16 @@ pub returns-in-Some-clause-come : goal.returns-in-Some-clause-come
 returns-in-Some-clause-come h c =
     let q = tree_of c.args.self.now in
     let s = c.args.store.now in
-    let slices = c.args.piece.slices.items in
+    let slices = c.args.piece.slices in
     on_ok_weaker c.take_complete.result (λ went old rows ended g stands.
     went c.args.closed old rows ended (subst (λ (o : Option Complete). Comes q old rows ended s.next s.slices.entries slices o c.args.closed) c.in-Some.is g) stands) c.take_complete.ensures.come
 
 pub returns-in-None-clause-steps : goal.returns-in-None-clause-steps
 returns-in-None-clause-steps g c =
     let new = c.take_slices.new in
-    on_ok_weaker c.take_slices.result (λ used. subst (λ (o : Option Complete). PieceSteps c.args.store.now (length c.args.piece.slices.items) o new.store c.args.steps.now new.steps) (sym c.in-None.is) used) c.take_slices.ensures.steps
+    on_ok_weaker c.take_slices.result (λ used. subst (λ (o : Option Complete). PieceSteps c.args.store.now (length c.args.piece.slices) o new.store c.args.steps.now new.steps) (sym c.in-None.is) used) c.take_slices.ensures.steps
 
 pub returns-in-Some-clause-steps : goal.returns-in-Some-clause-steps
 returns-in-Some-clause-steps g c =
     let new = c.take_complete.new in
-    on_ok_weaker c.take_complete.result (λ used. subst (λ (o : Option Complete). PieceSteps c.args.store.now (length c.args.piece.slices.items) o new.store c.args.steps.now new.steps) (sym c.in-Some.is) used) c.take_complete.ensures.steps
+    on_ok_weaker c.take_complete.result (λ used. subst (λ (o : Option Complete). PieceSteps c.args.store.now (length c.args.piece.slices) o new.store c.args.steps.now new.steps) (sym c.in-Some.is) used) c.take_complete.ensures.steps
